@@ -1,0 +1,6 @@
+// Cards: combinational netlists of at most 32 inputs, 256 nets and 32 outputs.
+// The type `Card` carries every rule of a card; `read` makes one from bytes, `write` spells one, `alike` compares two.
+pub mod function;
+pub mod gate;
+pub mod netlist;
+pub mod access;
