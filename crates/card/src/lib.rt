@@ -4,3 +4,8 @@ pub mod function;
 pub mod gate;
 pub mod netlist;
 pub mod access;
+pub mod fault;
+pub mod command;
+mod decode;
+mod draft;
+mod judge;
