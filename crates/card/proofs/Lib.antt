@@ -1,1 +1,3 @@
 pub mod Standing
+pub mod Steps
+pub mod Adding

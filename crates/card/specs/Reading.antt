@@ -1,6 +1,7 @@
 -- Reading as a definition that computes: what a run of card bytes says, command by command.
 -- The rules themselves, in words of commands and cards, stand in Rules; both are proved to agree.
 use mathlib.Core.List.{List, []}
+use mathlib.Core.Path.{_≡_}
 use mathlib.Core.Bool.{Bool, cond, _&&_}
 use Prim.Native.Nat.{ℕ, zero, suc, _+_, _*_, _-_}
 use lib.Dec.{eqb, leb, ltb}
@@ -70,3 +71,53 @@ faultOf d c at =
     (cond (undeclared d c) (Some (Operand (Undeclared at)))
     (cond (repeated d c) (Some (NamedTwice at))
     (cond (incomplete d c) (Some (Incomplete at)) None))))
+
+-- what a command leads to: a larger card and the number of bytes spent, the end, or a fault
+pub data Next : Type 0 where
+  more : Netlist → ℕ → Next
+  done : Next
+  bad : CardFault → Next
+
+-- a command that breaks none of rules 3 to 7; rule 8: nothing follows the end
+abbrev pub accepted : Netlist → Command → List ℕ → ℕ → Next
+accepted d AddInput rest at = more (adds d AddInput) 1
+accepted d (AddGate g) rest at = more (adds d (AddGate g)) (sizeOf (AddGate g))
+accepted d (AddOutput n) rest at = more (adds d (AddOutput n)) 3
+accepted d End rest at = cond (ltb 1 (length rest)) (bad (Trailing (at + 1))) done
+
+abbrev pub judged : Netlist → Command → List ℕ → ℕ → Option CardFault → Next
+judged d c rest at (Some e) = bad e
+judged d c rest at None = accepted d c rest at
+
+abbrev pub decoded : Netlist → List ℕ → ℕ → Result Command CardFault → Next
+decoded d rest at (Err e) = bad e
+decoded d rest at (Ok c) = judged d c rest at (faultOf d c at)
+
+-- one command more
+abbrev pub stepOf : Netlist → List ℕ → ℕ → Next
+stepOf d rest at = decoded d rest at (commandAt rest at)
+
+-- on from a step, by f where there is more
+abbrev pub onward : (Netlist → ℕ → Result Netlist CardFault) → Netlist → Next → Result Netlist CardFault
+onward f d (more e size) = f e size
+onward f d done = Ok d
+onward f d (bad e) = Err e
+
+-- the commands of the rest, which begins at an offset, at most n of them
+unfoldable pub readFrom : ℕ → List ℕ → ℕ → Netlist → Result Netlist CardFault
+readFrom zero rest at d = Err (Ended at)
+readFrom (suc n) rest at d = onward (λ e size. readFrom n (drop size rest) (at + size) e) d (stepOf d rest at)
+
+-- a card with nothing declared
+abbrev pub nothing : Netlist
+nothing = record { inputs = 0; gates = []; outputs = [] }
+
+-- what card bytes say: a netlist, or the fault that refuses them
+abbrev pub reading : List ℕ → Result Netlist CardFault
+reading bs = readFrom (suc (length bs)) bs 0 nothing
+
+-- a step's answer, the size of the command or none at the end, and the card so far that it leaves
+abbrev pub Stepped : Next → Result (Option ℕ) CardFault → Netlist → Netlist → Type 0
+Stepped n (Ok (Some size)) d e = n ≡ more e size
+Stepped n (Ok None) d e = (n ≡ done) × (e ≡ d)
+Stepped n (Err f) d e = n ≡ bad f

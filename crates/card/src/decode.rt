@@ -1,9 +1,12 @@
 // Decoding: which command the bytes begin with, or which of the first two rules they break.
 // Nothing here knows the card so far; the rules that do are tested afterwards.
 ghost use mathlib.Core.Path.{_≡_};
-ghost use Prim.Native.Nat.{ℕ, _+_, _<_, _≤_};
+ghost use Prim.Native.Nat.{ℕ, _+_, _*_, _<_, _≤_};
 ghost use lib.ListN.{length};
+ghost use Rattle.std.specs.Vec.{made};
+ghost use Rattle.card.specs.Commands.{sizeOf};
 ghost use Rattle.card.specs.Functions.{functionOf};
+ghost use Rattle.card.specs.Netlists.{netsRead};
 ghost use Rattle.card.specs.Reading.{commandAt, netAt, operandsAt};
 use crate::command::Command;
 use crate::fault::*;
@@ -33,6 +36,7 @@ fn function_of(digit: u8) -> Function
 fn net_at(rest: &[u8], place: usize, at: usize) -> Result<u16, OperandFault>
     requires { ⌜ place ≤ 3 ⌝ }
     ensures is_the_operand_or_cut { λ r. ⌜ r ≡ netAt (now (rest .entry)) place at ⌝ }
+    ensures lies_within_the_bytes { λ r. ⌜ made r (λ _. place + 2 ≤ length (now (rest .entry))) ⌝ }
 {
     if place + 1 >= rest.len() {
         return Err(OperandFault::Cut(at));
@@ -44,6 +48,7 @@ fn net_at(rest: &[u8], place: usize, at: usize) -> Result<u16, OperandFault>
 fn operands_at(rest: &[u8], count: usize, at: usize) -> Result<Operands, OperandFault>
     requires { ⌜ 0 < length (now rest) ⌝ }
     ensures are_the_operands_or_cut { λ r. ⌜ r ≡ operandsAt (now (rest .entry)) count at ⌝ }
+    ensures lie_within_the_bytes { λ r. ⌜ made r (λ os. 1 + 2 * length (netsRead os) ≤ length (now (rest .entry))) ⌝ }
 {
     match count {
         0 => Ok(Operands::None),
@@ -62,6 +67,7 @@ fn operands_at(rest: &[u8], count: usize, at: usize) -> Result<Operands, Operand
 // The command that the bytes begin with; `at` is the offset that a fault names.
 pub fn decode(rest: &[u8], at: usize) -> Result<Command, CardFault>
     ensures is_the_command_or_its_fault { λ r. ⌜ r ≡ commandAt (now (rest .entry)) at ⌝ }
+    ensures lies_within_the_bytes { λ r. ⌜ made r (λ c. sizeOf c ≤ length (now (rest .entry))) ⌝ }
 {
     if rest.len() == 0 {
         return Err(CardFault::Ended(at));

@@ -9,3 +9,4 @@ pub mod command;
 mod decode;
 mod draft;
 mod judge;
+pub mod read;
