@@ -5,3 +5,4 @@ pub mod Refusals
 pub mod Commands
 pub mod Reading
 pub mod Drafts
+pub mod Rules
