@@ -4,3 +4,5 @@ pub mod Adding
 pub mod Decoded
 pub mod Judged
 pub mod Ruled
+pub mod Below
+pub mod Lawfully

@@ -13,6 +13,9 @@ ghost use Rattle.std.specs.declared.option.Option.the-variants.{Some, None};
 ghost use Rattle.card.specs.Commands.{adds, late, overfull};
 ghost use Rattle.card.specs.Drafts.{draftOf};
 ghost use Rattle.card.specs.Reading.{Stepped, faultOf, nothing, reading, stepOf};
+ghost use Rattle.card.specs.Netlists.{Lawful, Netlist};
+ghost use Rattle.card.specs.Refusals.{refusalNumber, refusalOffset};
+ghost use Rattle.card.specs.Rules.{Accepted, Agree, Refused};
 ghost use Rattle.card.specs.Views.{netlistOf};
 ghost use Rattle.card.specs.declared.fault.CardFault.the-variants.{Memory};
 use crate::command::Command;
@@ -24,6 +27,7 @@ use crate::gate::Gate;
 use crate::gate::Operands;
 use crate::judge::judge;
 use crate::netlist::Card;
+use std::alloc::AllocError;
 use std::alloc::Global;
 
 impl Draft {
@@ -88,4 +92,38 @@ fn fill(draft: &mut Draft, bytes: &[u8]) -> Result<(), CardFault>
             None => return Ok(()),
         }
     }
+}
+
+// The bytes' commands, gathered in a draft.
+fn gather(bytes: &[u8]) -> Result<Draft, CardFault>
+    ensures holds_what_the_bytes_say { λ r. ⌜ Cases r (λ draft. reading (now (bytes .entry)) ≡ Ok (draftOf draft)) (λ e. reading (now (bytes .entry)) ≡ Err e) ⌝ }
+{
+    let mut draft = Draft::new();
+    fill(&mut draft, bytes)?;
+    Ok(draft)
+}
+
+// A draft that keeps the rules of a card, as a card.
+fn card_of(heap: Global, draft: &Draft) -> Result<Card, AllocError>
+    requires { ⌜ Lawful (draftOf (now draft)) ⌝ }
+    ensures holds_the_draft { λ r. ⌜ made r (λ card. netlistOf card ≡ draftOf (now (draft .entry))) ⌝ }
+{
+    let gates = Vec::from_slice(heap, &draft.gates[0..draft.gate_count])?;
+    let outputs = Vec::from_slice(heap, &draft.outputs[0..draft.output_count])?;
+    Ok(Card { inputs: draft.inputs, gates, outputs })
+}
+
+// The card that the bytes spell, written whole over a card that the caller lends.
+pub fn read(heap: Global, bytes: &[u8], card: &mut Card) -> Result<(), CardFault>
+    ensures accepted_bytes_spell_the_card_held { λ r. ⌜ made r (λ _. Accepted (now (bytes .entry)) (netlistOf (now (card .exit)))) ⌝ }
+    ensures a_refusal_names_the_first_broken_rule_and_its_place { λ r. ⌜ refused r (λ e. (e ≡ Memory → ⊥) → Refused (now (bytes .entry)) (refusalNumber e) (refusalOffset e)) ⌝ }
+    ensures want_of_memory_refuses_only_bytes_that_spell_a_card { λ r. ⌜ refused r (λ e. e ≡ Memory → (n : Netlist) × Accepted (now (bytes .entry)) n) ⌝ }
+    ensures a_refusal_keeps_the_lent_card { λ r. ⌜ refused r (λ _. now (card .exit) ≡ now (card .entry)) ⌝ }
+    ensures is_what_the_definition_reads { λ r. ⌜ Cases r (λ _. reading (now (bytes .entry)) ≡ Ok (netlistOf (now (card .exit)))) (λ e. (e ≡ Memory → ⊥) → reading (now (bytes .entry)) ≡ Err e) ⌝ }
+    ensures definition_and_rules_agree { λ _. ⌜ Agree ⌝ }
+{
+    let draft = gather(bytes)?;
+    let spelled_card = card_of(heap, &draft)?;
+    *card = spelled_card;
+    Ok(())
 }
