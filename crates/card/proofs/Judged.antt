@@ -19,7 +19,7 @@ use Rattle.card.specs.Refusals.{refusalNumber, refusalOffset}
 use Rattle.card.specs.Rules.{BreaksFirst, KeepsRules, breaks}
 use Rattle.card.proofs.Steps.{Kept, kept, stopped}
 
-module _ (d : Netlist) (c : Command) (at : ℕ) where
+module _ (d : Netlist) (c : Command) where
   -- a rule that none of the five is broken at
   unbroken : (q : ℕ) → (q ≡ 3 → late d c ≡ false) → (q ≡ 4 → overfull d c ≡ false) → (q ≡ 5 → undeclared d c ≡ false) → (q ≡ 6 → repeated d c ≡ false) → (q ≡ 7 → incomplete d c ≡ false) → breaks d c q ≡ false
   unbroken q h3 h4 h5 h6 h7 =
@@ -29,8 +29,12 @@ module _ (d : Netlist) (c : Command) (at : ℕ) where
       cond-both (eqb q 6) _ _ (λ x. x ≡ false) (λ e. h6 (eqb-true q 6 e)) (λ _.
       cond-both (eqb q 7) _ _ (λ x. x ≡ false) (λ e. h7 (eqb-true q 7 e)) (λ _. refl)))))
 
+  pub kept-rules : Kept d c → KeepsRules d c
+  kept-rules k q = unbroken q (λ _. k .not-late) (λ _. k .not-overfull) (λ _. k .all-declared) (λ _. k .not-repeated) (λ _. k .not-incomplete)
+
+module _ (d : Netlist) (c : Command) (at : ℕ) where
   pub keeps-rules : faultOf d c at ≡ None → KeepsRules d c
-  keeps-rules e q = let k = kept d c at e in unbroken q (λ _. k .not-late) (λ _. k .not-overfull) (λ _. k .all-declared) (λ _. k .not-repeated) (λ _. k .not-incomplete)
+  keeps-rules e = kept-rules d c (kept d c at e)
 
   pub no-fault : KeepsRules d c → faultOf d c at ≡ None
   no-fault k = cond-false (late d c) _ _ (k 3) ∙ cond-false (overfull d c) _ _ (k 4) ∙ cond-false (undeclared d c) _ _ (k 5) ∙ cond-false (repeated d c) _ _ (k 6) ∙ cond-false (incomplete d c) _ _ (k 7)
@@ -45,11 +49,11 @@ module _ (d : Netlist) (c : Command) (at : ℕ) where
 
   pub fault-says : (e : CardFault) → faultOf d c at ≡ Some e → Says e
   fault-says e p =
-      ⊎-elim (λ s. says-at (LateInput at) e (s .1) (record { first = record { broken = s .0; none-before = λ q l. unbroken q (λ z. absurd (omega (arith, z, l))) (λ z. absurd (omega (arith, z, l))) (λ z. absurd (omega (arith, z, l))) (λ z. absurd (omega (arith, z, l))) (λ z. absurd (omega (arith, z, l))) }; place = refl })) (λ a.
-      ⊎-elim (λ s. says-at (Limit at) e (s .1) (record { first = record { broken = s .0; none-before = λ q l. unbroken q (λ _. a .0) (λ z. absurd (omega (arith, z, l))) (λ z. absurd (omega (arith, z, l))) (λ z. absurd (omega (arith, z, l))) (λ z. absurd (omega (arith, z, l))) }; place = refl })) (λ b.
-      ⊎-elim (λ s. says-at (Operand (Undeclared at)) e (s .1) (record { first = record { broken = s .0; none-before = λ q l. unbroken q (λ _. a .0) (λ _. b .0) (λ z. absurd (omega (arith, z, l))) (λ z. absurd (omega (arith, z, l))) (λ z. absurd (omega (arith, z, l))) }; place = refl })) (λ f.
-      ⊎-elim (λ s. says-at (NamedTwice at) e (s .1) (record { first = record { broken = s .0; none-before = λ q l. unbroken q (λ _. a .0) (λ _. b .0) (λ _. f .0) (λ z. absurd (omega (arith, z, l))) (λ z. absurd (omega (arith, z, l))) }; place = refl })) (λ g.
-      ⊎-elim (λ s. says-at (Incomplete at) e (s .1) (record { first = record { broken = s .0; none-before = λ q l. unbroken q (λ _. a .0) (λ _. b .0) (λ _. f .0) (λ _. g .0) (λ z. absurd (omega (arith, z, l))) }; place = refl })) (λ h.
+      ⊎-elim (λ s. says-at (LateInput at) e (s .1) (record { first = record { broken = s .0; none-before = λ q l. unbroken d c q (λ z. absurd (omega (arith, z, l))) (λ z. absurd (omega (arith, z, l))) (λ z. absurd (omega (arith, z, l))) (λ z. absurd (omega (arith, z, l))) (λ z. absurd (omega (arith, z, l))) }; place = refl })) (λ a.
+      ⊎-elim (λ s. says-at (Limit at) e (s .1) (record { first = record { broken = s .0; none-before = λ q l. unbroken d c q (λ _. a .0) (λ z. absurd (omega (arith, z, l))) (λ z. absurd (omega (arith, z, l))) (λ z. absurd (omega (arith, z, l))) (λ z. absurd (omega (arith, z, l))) }; place = refl })) (λ b.
+      ⊎-elim (λ s. says-at (Operand (Undeclared at)) e (s .1) (record { first = record { broken = s .0; none-before = λ q l. unbroken d c q (λ _. a .0) (λ _. b .0) (λ z. absurd (omega (arith, z, l))) (λ z. absurd (omega (arith, z, l))) (λ z. absurd (omega (arith, z, l))) }; place = refl })) (λ f.
+      ⊎-elim (λ s. says-at (NamedTwice at) e (s .1) (record { first = record { broken = s .0; none-before = λ q l. unbroken d c q (λ _. a .0) (λ _. b .0) (λ _. f .0) (λ z. absurd (omega (arith, z, l))) (λ z. absurd (omega (arith, z, l))) }; place = refl })) (λ g.
+      ⊎-elim (λ s. says-at (Incomplete at) e (s .1) (record { first = record { broken = s .0; none-before = λ q l. unbroken d c q (λ _. a .0) (λ _. b .0) (λ _. f .0) (λ _. g .0) (λ z. absurd (omega (arith, z, l))) }; place = refl })) (λ h.
       let z : _≡_ {A = ℕ} 0 1 = let r = h .1 in cc in absurd (omega (arith, z)))
       (stopped (incomplete d c) _ _ _ (g .1)))
       (stopped (repeated d c) _ _ _ (f .1)))

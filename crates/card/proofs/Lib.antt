@@ -6,3 +6,6 @@ pub mod Judged
 pub mod Ruled
 pub mod Below
 pub mod Lawfully
+pub mod Appended
+pub mod Canonical
+pub mod Oftens

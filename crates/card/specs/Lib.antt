@@ -6,3 +6,5 @@ pub mod Commands
 pub mod Reading
 pub mod Drafts
 pub mod Rules
+pub mod Writing
+pub mod Alikes

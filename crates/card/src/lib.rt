@@ -10,3 +10,5 @@ mod decode;
 mod draft;
 mod judge;
 pub mod read;
+pub mod write;
+pub mod alike;
