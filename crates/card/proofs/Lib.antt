@@ -9,3 +9,4 @@ pub mod Lawfully
 pub mod Appended
 pub mod Canonical
 pub mod Oftens
+pub mod Alikely

@@ -8,3 +8,4 @@ pub mod Drafts
 pub mod Rules
 pub mod Writing
 pub mod Alikes
+pub mod Wires

@@ -49,5 +49,8 @@ pub fn alike(a: &Card, b: &Card) -> bool
     ensures says_whether_the_cards_are_alike { λ r. ⌜ Decides r (Alike (netlistOf (now (a .entry))) (netlistOf (now (b .entry)))) ⌝ }
     ensures alikeness_is_an_equivalence { λ _. ⌜ AlikeLaws ⌝ }
 {
-    a.inputs() == b.inputs() && same_gates(a.gates(), b.gates()) && same_outputs(a.outputs(), b.outputs())
+    let inputs = a.inputs() == b.inputs();
+    let gates = same_gates(a.gates(), b.gates());
+    let outputs = same_outputs(a.outputs(), b.outputs());
+    inputs & gates & outputs
 }

@@ -4,6 +4,7 @@ pub mod function;
 pub mod gate;
 pub mod netlist;
 pub mod access;
+pub mod wire;
 pub mod fault;
 pub mod command;
 mod decode;
