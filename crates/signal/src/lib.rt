@@ -2,4 +2,6 @@
 // and the one walk that gives each net of a card its value, with or without a line that sticks.
 pub mod kind;
 pub mod line;
+pub mod bit;
 pub mod ternary;
+pub mod walk;
