@@ -1,2 +1,4 @@
 pub mod Places
 pub mod Keeping
+pub mod Entering
+pub mod Steps

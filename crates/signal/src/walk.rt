@@ -4,7 +4,7 @@ ghost use mathlib.Core.Path.{_≡_};
 ghost use mathlib.Core.Bool.{false, true};
 ghost use mathlib.Core.List.{List};
 ghost use Prim.Native.Nat.{ℕ, _<_, _≤_};
-ghost use lib.ListN.{drop, getD, take};
+ghost use lib.ListN.{drop, getD, length, take};
 ghost use Rattle.card.specs.Netlists.{allBelow, nets as netCount, pinsOf};
 ghost use Rattle.card.specs.Views.{netlistOf};
 ghost use Rattle.signal.specs.Gates.{truth};
@@ -111,12 +111,15 @@ fn gate_value<S: Signal + Copy>(gate: Gate, stuck: Option<Stuck>, nets: &[S; 256
 // Puts the stuck level in the place of an input that sticks.
 fn enter_stuck_input<S: Signal + Copy>(inputs: usize, stuck: Option<Stuck>, nets: &mut [S; 256])
     requires inputs_fit { ⌜ inputs ≤ 256 ⌝ }
+    ensures array_keeps_its_length { λ _. ⌜ length (now (nets .exit)) ≡ length (now (nets .entry)) ⌝ }
     ensures inputs_are_entered { λ _. ⌜ take inputs (now (nets .exit)) ≡ entered (S·Signal .operations) stuck 0 (take inputs (now (nets .entry))) ⌝ }
     ensures entries_behind_the_inputs_stay { λ _. ⌜ drop inputs (now (nets .exit)) ≡ drop inputs (now (nets .entry)) ⌝ }
 {
-    if let Some(Stuck { line: Line::Net(net), level }) = stuck {
-        if (net as usize) < inputs {
-            nets[net as usize] = S::constant(level);
+    if let Some(fault) = stuck {
+        if let Line::Net(net) = fault.line {
+            if (net as usize) < inputs {
+                nets[net as usize] = S::constant(fault.level);
+            }
         }
     }
 }
@@ -125,6 +128,7 @@ fn enter_stuck_input<S: Signal + Copy>(inputs: usize, stuck: Option<Stuck>, nets
 // on return entry j holds the value of net j, for every net j, and the entries behind the nets are as they were.
 // A stuck net has its level for all its readers and as an output; a stuck pin has it for that pin alone.
 pub fn walk<S: Signal + Copy>(card: &Card, stuck: Option<Stuck>, nets: &mut [S; 256])
+    ensures array_keeps_its_length { λ _. ⌜ length (now (nets .exit)) ≡ length (now (nets .entry)) ⌝ }
     ensures every_net_has_its_value { λ _. ⌜ take (netCount (netlistOf (now (card .entry)))) (now (nets .exit)) ≡ netValues (S·Signal .operations) stuck (netlistOf (now (card .entry))) (take (netlistOf (now (card .entry)) .inputs) (now (nets .entry))) ⌝ }
     ensures entries_behind_the_nets_stay { λ _. ⌜ drop (netCount (netlistOf (now (card .entry)))) (now (nets .exit)) ≡ drop (netCount (netlistOf (now (card .entry)))) (now (nets .entry)) ⌝ }
     ensures every_net_allows_what_allowed_inputs_make { λ _. ⌜ ((l : ℕ) → l < S·Signal .lanes → Carries (λ x. S·Signal .allows x l) stuck (netlistOf (now (card .entry))) (take (netlistOf (now (card .entry)) .inputs) (now (nets .entry))) (take (netCount (netlistOf (now (card .entry)))) (now (nets .exit)))) ⌝ }
