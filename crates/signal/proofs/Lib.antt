@@ -2,3 +2,6 @@ pub mod Places
 pub mod Keeping
 pub mod Entering
 pub mod Steps
+pub mod Exactly
+pub mod Unknowns
+pub mod Meant

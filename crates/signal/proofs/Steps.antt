@@ -11,6 +11,7 @@ use lib.Dec.{ltb}
 use lib.ListN.{length, getD, set, take, drop}
 use lib.Seq.{getD-take, take-suc-set, drop-set-lt, drop-drop}
 use Rattle.std.proofs.shelf.Lists.{at-drop-more, at-drop-all}
+use Rattle.std.proofs.shelf.Tests.{and-parts}
 use Rattle.std.specs.declared.option.Option.{Option}
 use Rattle.card.specs.declared.gate.Gate.{Gate}
 use Rattle.card.specs.Netlists.{allBelow, pinsOf}
@@ -19,19 +20,11 @@ use Rattle.signal.specs.Operations.{Operations}
 use Rattle.signal.specs.Gates.{truth}
 use Rattle.signal.specs.Walks.{unlessStuck, pinValues, gateNet, walked, entered, sticksPin, sticksNet}
 
-and-left : (p q : Bool) → p && q ≡ true → p ≡ true
-and-left true q e = refl
-and-left false q e = e
-
-and-right : (p q : Bool) → p && q ≡ true → q ≡ true
-and-right true q e = e
-and-right false q e = absurd (let z : _≡_ {A = ℕ} 0 1 = cc in omega arith)
-
 pub below-head : (n x : ℕ) (xs : List ℕ) → allBelow n (x ∷ xs) ≡ true → x < n
-below-head n x xs e = ltb-true x n (and-left (ltb x n) _ e)
+below-head n x xs e = ltb-true x n (and-parts (ltb x n) (allBelow n xs) e .0)
 
 pub below-tail : (n x : ℕ) (xs : List ℕ) → allBelow n (x ∷ xs) ≡ true → allBelow n xs ≡ true
-below-tail n x xs e = and-right (ltb x n) _ e
+below-tail n x xs e = and-parts (ltb x n) (allBelow n xs) e .1
 
 -- a greater bound
 pub below-weaken : (n m : ℕ) (xs : List ℕ) → n ≤ m → allBelow n xs ≡ true → allBelow m xs ≡ true

@@ -27,20 +27,3 @@ Sound o allows = Kept o allows
 -- where each operand allows one bit, so does the answer
 abbrev pub Definite : {S : Type 0} → Operations S → (S → Bool → Type 0) → Type 0
 Definite o allows = Kept o (Only allows)
-
--- some bit that x allows is made into b
-abbrev pub MadeOfOne : {S : Type 0} → (S → Bool → Type 0) → (Bool → Bool) → S → Bool → Type 0
-MadeOfOne allows f x b = (p : Bool) × allows x p × (f p ≡ b)
-
--- some bits that x and y allow, chosen independently, are made into b
-abbrev pub MadeOfTwo : {S : Type 0} → (S → Bool → Type 0) → (Bool → Bool → Bool) → S → S → Bool → Type 0
-MadeOfTwo allows f x y b = (p : Bool) × (q : Bool) × allows x p × allows y q × (f p q ≡ b)
-
--- a sound kind is exact where an answer allows no bit but those that allowed bits, chosen independently, make
-pub record Exact {S : Type 0} (o : Operations S) (allows : S → Bool → Type 0) : Type 0 where
-  pub sound : Sound o allows
-  pub constant : (b c : Bool) → allows (o .constant b) c → b ≡ c
-  pub negated : (x : S) (b : Bool) → allows (o .negated x) b → MadeOfOne allows not x b
-  pub both : (x y : S) (b : Bool) → allows (o .both x y) b → MadeOfTwo allows _&&_ x y b
-  pub either : (x y : S) (b : Bool) → allows (o .either x y) b → MadeOfTwo allows _||_ x y b
-  pub unlike : (x y : S) (b : Bool) → allows (o .unlike x y) b → MadeOfTwo allows differ x y b

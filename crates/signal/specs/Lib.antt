@@ -4,4 +4,6 @@ pub mod Gates
 pub mod Joins
 pub mod Walks
 pub mod Lists
+pub mod Exacts
+pub mod Meanings
 pub mod Ternaries

@@ -1,4 +1,5 @@
 -- The three values by the bits that each allows, and their answers by the bits that allowed bits make: no table stands here.
+use mathlib.Core.Path.{_≡_}
 use mathlib.Core.Bool.{Bool, true, false, not, _&&_, _||_}
 use Prim.Native.Nat.{ℕ}
 use Rattle.signal.specs.declared.ternary.Ternary.{Ternary}
@@ -10,6 +11,10 @@ abbrev pub has : Ternary → Bool → Bool
 has Low b = not b
 has High b = b
 has X b = true
+
+-- a value allows a bit
+abbrev pub Allows : Ternary → Bool → Type 0
+Allows x b = has x b ≡ true
 
 abbrev pub same : Bool → Bool → Bool
 same true b = b

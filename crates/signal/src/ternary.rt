@@ -1,9 +1,8 @@
 // The three values of a net that is known to be 0, known to be 1, or unknown (X), as a kind of signal.
 // An answer is X exactly where bits that the operands allow, chosen independently, give both results; it is read from a table of nine.
 ghost use mathlib.Core.Path.{_≡_};
-ghost use mathlib.Core.Bool.{true};
-ghost use Prim.Native.Nat.{ℕ, _<_};
-ghost use Rattle.signal.specs.Ternaries.{has, place, ternaryOperations};
+ghost use Rattle.signal.specs.Exacts.{GatesExact};
+ghost use Rattle.signal.specs.Ternaries.{Allows, place, ternaryOperations};
 use crate::kind::Signal;
 
 #[derive(Clone, Copy)]
@@ -47,7 +46,7 @@ impl Ternary {
 pub impl Signal for Ternary as TernarySignal {
     ghost lanes = { 1 };
 
-    ghost allows = { λ x l b. has x b ≡ true };
+    ghost allows = { λ x l b. Allows x b };
 
     ghost operations = { ternaryOperations };
 
@@ -74,4 +73,11 @@ pub impl Signal for Ternary as TernarySignal {
     fn xor(x: Ternary, y: Ternary) -> Ternary {
         XOR[x.place()][y.place()]
     }
+}
+
+// The theorem behind the tables: a gate's answer allows a bit exactly when some choice of allowed bits, one for each pin, makes it,
+// whatever the gate's function and the number of its pins; so it is X exactly when such choices make both bits.
+pub fn ternary_stands()
+    ensures gates_allow_exactly_what_some_choice_makes { λ _. ⌜ GatesExact ternaryOperations Allows ⌝ }
+{
 }

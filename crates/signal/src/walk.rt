@@ -11,6 +11,7 @@ ghost use Rattle.signal.specs.Gates.{truth};
 ghost use Rattle.signal.specs.Joins.{ended, joins, unit};
 ghost use Rattle.signal.specs.Laws.{Only};
 ghost use Rattle.signal.specs.Lists.{Carries};
+ghost use Rattle.signal.specs.Meanings.{BitMeaning};
 ghost use Rattle.signal.specs.Walks.{entered, gateNet, levelOf, netValues, pinValues, sticksNet, sticksPin, unlessStuck};
 use card::function::Function;
 use card::gate::{Gate, Operands};
@@ -133,6 +134,7 @@ pub fn walk<S: Signal + Copy>(card: &Card, stuck: Option<Stuck>, nets: &mut [S; 
     ensures entries_behind_the_nets_stay { λ _. ⌜ drop (netCount (netlistOf (now (card .entry)))) (now (nets .exit)) ≡ drop (netCount (netlistOf (now (card .entry)))) (now (nets .entry)) ⌝ }
     ensures every_net_allows_what_allowed_inputs_make { λ _. ⌜ ((l : ℕ) → l < S·Signal .lanes → Carries (λ x. S·Signal .allows x l) stuck (netlistOf (now (card .entry))) (take (netlistOf (now (card .entry)) .inputs) (now (nets .entry))) (take (netCount (netlistOf (now (card .entry)))) (now (nets .exit)))) ⌝ }
     ensures definite_inputs_make_every_net_definite { λ _. ⌜ ((l : ℕ) → l < S·Signal .lanes → Carries (Only (λ x. S·Signal .allows x l)) stuck (netlistOf (now (card .entry))) (take (netlistOf (now (card .entry)) .inputs) (now (nets .entry))) (take (netCount (netlistOf (now (card .entry)))) (now (nets .exit)))) ⌝ }
+    ensures at_bits_each_function_means_its_name { λ _. ⌜ BitMeaning ⌝ }
 {
     let inputs = card.inputs();
     enter_stuck_input(inputs, stuck, nets);

@@ -16,6 +16,7 @@ use mathlib.Core.Bool.{true}
 use Rattle.signal.specs.Laws.{Only}
 use Rattle.signal.specs.Walks.{walked, netValues}
 use Rattle.signal.proofs.Keeping.{carried}
+use Rattle.signal.proofs.Meant.{bits-mean}
 use Rattle.signal.proofs.Steps.{walked-more, walked-all, rest-more, rest-all}
 use Rattle.signal.proofs.walk.walk.Needs as need
 
@@ -46,5 +47,6 @@ returns g c =
       every-net-has-its-value = w;
       entries-behind-the-nets-stay = rest-all (c .loop-i .nets) (c .enter-stuck-input .last .nets) (c .args .nets .now) (nets card) (c .inputs-inputs .result) (c .loop-i .i) (omega (arith, ap length (c .gates-gate-items .ensures .are-the-gates))) (c .loop-i .inv .2) (c .enter-stuck-input .ensures .entries-behind-the-inputs-stay);
       every-net-allows-what-allowed-inputs-make = λ l h. carried (g .S·Signal .operations) (λ x. g .S·Signal .allows x l) (g .S·Signal·met .sound l h) (c .args .stuck) card (take k (c .args .nets .now)) (take (nets card) (c .loop-i .nets)) w;
-      definite-inputs-make-every-net-definite = λ l h. carried (g .S·Signal .operations) (Only (λ x. g .S·Signal .allows x l)) (g .S·Signal·met .definite l h) (c .args .stuck) card (take k (c .args .nets .now)) (take (nets card) (c .loop-i .nets)) w
+      definite-inputs-make-every-net-definite = λ l h. carried (g .S·Signal .operations) (Only (λ x. g .S·Signal .allows x l)) (g .S·Signal·met .definite l h) (c .args .stuck) card (take k (c .args .nets .now)) (take (nets card) (c .loop-i .nets)) w;
+      at-bits-each-function-means-its-name = bits-mean
     }
