@@ -2,6 +2,7 @@ pub mod Places
 pub mod Keeping
 pub mod Entering
 pub mod Steps
+pub mod Walked
 pub mod Exactly
 pub mod Unknowns
 pub mod Meant

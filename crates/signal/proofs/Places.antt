@@ -1,5 +1,5 @@
 -- Lists related place by place: their lengths, their elements, one more at the end.
-use mathlib.Core.Path.{_≡_, refl, ap}
+use mathlib.Core.Path.{_≡_, refl, ap, ap₂}
 use mathlib.Core.List.{List, [], _∷_, _++_}
 use Prim.Native.Nat.{ℕ, zero, suc, _<_}
 use native.Mathlib.Omega.{arith}
@@ -47,3 +47,12 @@ everywhere-map R Q [] [] f a = tt
 everywhere-map R Q [] (b ∷ bs) f a = absurd a
 everywhere-map R Q (x ∷ xs) [] f a = absurd a
 everywhere-map R Q (x ∷ xs) (b ∷ bs) f a = (f x b (a .0), everywhere-map R Q xs bs f (a .1))
+
+-- bits that one value can be related to in one way only
+pub everywhere-same : {S B : Type 0} (R Q : S → B → Type 0) (xs : List S) (bs cs : List B) → ((x : S) (b c : B) → R x b → Q x c → b ≡ c) → Everywhere R xs bs → Everywhere Q xs cs → bs ≡ cs
+everywhere-same R Q [] [] [] f a e = refl
+everywhere-same R Q [] [] (c ∷ cs) f a e = absurd e
+everywhere-same R Q [] (b ∷ bs) cs f a e = absurd a
+everywhere-same R Q (x ∷ xs) [] cs f a e = absurd a
+everywhere-same R Q (x ∷ xs) (b ∷ bs) [] f a e = absurd e
+everywhere-same R Q (x ∷ xs) (b ∷ bs) (c ∷ cs) f a e = ap₂ (λ y ys. y ∷ ys) (f x b c (a .0) (e .0)) (everywhere-same R Q xs bs cs f (a .1) (e .1))

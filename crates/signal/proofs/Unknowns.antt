@@ -1,14 +1,16 @@
 -- The three values are exact: an answer allows exactly the bits that allowed bits, chosen independently, make.
 use mathlib.Core.Path.{_≡_, refl, sym, _∙_, ap, subst}
 use mathlib.Core.Logic.{⊎-elim}
-use mathlib.Core.Bool.{Bool, true, false, not, _&&_, _||_, cond}
+use mathlib.Core.Bool.{Bool, true, false, not, _&&_, _||_, cond, false≢true}
 use Rattle.std.proofs.shelf.Tests.{and-parts, and-from, or-cases, or-left, or-right}
 use Rattle.signal.specs.declared.ternary.Ternary.{Ternary}
 use Rattle.signal.specs.declared.ternary.Ternary.the-variants.{Low, High, X}
 use Rattle.signal.specs.Operations.{differ}
 use Rattle.signal.specs.Laws.{Inhabited, Sound}
-use Rattle.signal.specs.Exacts.{MadeOfOne, MadeOfTwo, Exact}
-use Rattle.signal.specs.Ternaries.{Allows, has, same, makes, makesOfTwo, of, ternaryOperations}
+use Rattle.signal.specs.Gates.{truth}
+use Rattle.signal.specs.Exacts.{MadeOfOne, MadeOfTwo, Exact, GatesExact}
+use Rattle.signal.specs.Ternaries.{Allows, has, same, makes, makesOfTwo, of, ternaryOperations, UnknownWhereBothAreMade}
+use Rattle.signal.proofs.Exactly.{gates-exact}
 
 pub ternary-inhabited : Inhabited Allows
 ternary-inhabited Low = (false, refl)
@@ -103,3 +105,18 @@ ternary-exact =
       either = answer-back _||_;
       unlike = answer-back differ
     }
+
+unknown : (x : Ternary) → Allows x false → Allows x true → x ≡ X
+unknown Low a b = absurd (false≢true b)
+unknown High a b = absurd (false≢true a)
+unknown X a b = refl
+
+pub ternary-gates-exact : GatesExact ternaryOperations Allows
+ternary-gates-exact = gates-exact ternaryOperations Allows ternary-exact ternary-inhabited
+
+pub unknown-where-both-are-made : UnknownWhereBothAreMade
+unknown-where-both-are-made f pins =
+    let e = ternary-gates-exact in
+    (λ u.
+      (e .makes-what-is-allowed f pins false (ap (λ x. has x false) u), e .makes-what-is-allowed f pins true (ap (λ x. has x true) u))
+    , λ m. unknown (truth ternaryOperations f pins) (e .allows-what-is-made f pins false (m .0)) (e .allows-what-is-made f pins true (m .1)))

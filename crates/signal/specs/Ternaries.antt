@@ -1,10 +1,15 @@
 -- The three values by the bits that each allows, and their answers by the bits that allowed bits make: no table stands here.
 use mathlib.Core.Path.{_≡_}
+use mathlib.Core.Logic.{_↔_}
+use mathlib.Core.List.{List}
 use mathlib.Core.Bool.{Bool, true, false, not, _&&_, _||_}
 use Prim.Native.Nat.{ℕ}
+use Rattle.card.specs.declared.function.Function.{Function}
 use Rattle.signal.specs.declared.ternary.Ternary.{Ternary}
 use Rattle.signal.specs.declared.ternary.Ternary.the-variants.{Low, High, X}
 use Rattle.signal.specs.Operations.{Operations, differ}
+use Rattle.signal.specs.Gates.{truth}
+use Rattle.signal.specs.Exacts.{MadeOfPins}
 
 -- whether a value allows a bit
 abbrev pub has : Ternary → Bool → Bool
@@ -43,6 +48,11 @@ ternaryOperations = record {
   either = λ x y. of (makesOfTwo _||_ x y false) (makesOfTwo _||_ x y true);
   unlike = λ x y. of (makesOfTwo differ x y false) (makesOfTwo differ x y true)
   }
+
+-- an answer is unknown exactly when the allowed bits, chosen independently for each pin, make both bits
+abbrev pub UnknownWhereBothAreMade : Type 0
+UnknownWhereBothAreMade =
+    (f : Function) (pins : List Ternary) → (truth ternaryOperations f pins ≡ X) ↔ (MadeOfPins Allows f pins false × MadeOfPins Allows f pins true)
 
 -- the row or column of a value in the code's tables
 abbrev pub place : Ternary → ℕ

@@ -2,7 +2,7 @@
 // An answer is X exactly where bits that the operands allow, chosen independently, give both results; it is read from a table of nine.
 ghost use mathlib.Core.Path.{_≡_};
 ghost use Rattle.signal.specs.Exacts.{GatesExact};
-ghost use Rattle.signal.specs.Ternaries.{Allows, place, ternaryOperations};
+ghost use Rattle.signal.specs.Ternaries.{Allows, place, ternaryOperations, UnknownWhereBothAreMade};
 use crate::kind::Signal;
 
 #[derive(Clone, Copy)]
@@ -75,9 +75,10 @@ pub impl Signal for Ternary as TernarySignal {
     }
 }
 
-// The theorem behind the tables: a gate's answer allows a bit exactly when some choice of allowed bits, one for each pin, makes it,
-// whatever the gate's function and the number of its pins; so it is X exactly when such choices make both bits.
+// The theorem behind the tables, for every function and any number of pins: a gate's answer allows a bit exactly when
+// some choice of allowed bits, one for each pin, makes it; so it is X exactly when such choices make both bits.
 pub fn ternary_stands()
     ensures gates_allow_exactly_what_some_choice_makes { λ _. ⌜ GatesExact ternaryOperations Allows ⌝ }
+    ensures an_answer_is_unknown_exactly_where_both_bits_are_made { λ _. ⌜ UnknownWhereBothAreMade ⌝ }
 {
 }

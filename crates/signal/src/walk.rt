@@ -130,10 +130,10 @@ fn enter_stuck_input<S: Signal + Copy>(inputs: usize, stuck: Option<Stuck>, nets
 // A stuck net has its level for all its readers and as an output; a stuck pin has it for that pin alone.
 pub fn walk<S: Signal + Copy>(card: &Card, stuck: Option<Stuck>, nets: &mut [S; 256])
     ensures array_keeps_its_length { λ _. ⌜ length (now (nets .exit)) ≡ length (now (nets .entry)) ⌝ }
-    ensures every_net_has_its_value { λ _. ⌜ take (netCount (netlistOf (now (card .entry)))) (now (nets .exit)) ≡ netValues (S·Signal .operations) stuck (netlistOf (now (card .entry))) (take (netlistOf (now (card .entry)) .inputs) (now (nets .entry))) ⌝ }
-    ensures entries_behind_the_nets_stay { λ _. ⌜ drop (netCount (netlistOf (now (card .entry)))) (now (nets .exit)) ≡ drop (netCount (netlistOf (now (card .entry)))) (now (nets .entry)) ⌝ }
-    ensures every_net_allows_what_allowed_inputs_make { λ _. ⌜ ((l : ℕ) → l < S·Signal .lanes → Carries (λ x. S·Signal .allows x l) stuck (netlistOf (now (card .entry))) (take (netlistOf (now (card .entry)) .inputs) (now (nets .entry))) (take (netCount (netlistOf (now (card .entry)))) (now (nets .exit)))) ⌝ }
-    ensures definite_inputs_make_every_net_definite { λ _. ⌜ ((l : ℕ) → l < S·Signal .lanes → Carries (Only (λ x. S·Signal .allows x l)) stuck (netlistOf (now (card .entry))) (take (netlistOf (now (card .entry)) .inputs) (now (nets .entry))) (take (netCount (netlistOf (now (card .entry)))) (now (nets .exit)))) ⌝ }
+    ensures every_net_has_its_value { λ _. let c = netlistOf (now (card .entry)) in ⌜ take (netCount c) (now (nets .exit)) ≡ netValues (S·Signal .operations) stuck c (take (c .inputs) (now (nets .entry))) ⌝ }
+    ensures entries_behind_the_nets_stay { λ _. let c = netlistOf (now (card .entry)) in ⌜ drop (netCount c) (now (nets .exit)) ≡ drop (netCount c) (now (nets .entry)) ⌝ }
+    ensures every_net_allows_what_allowed_inputs_make { λ _. let c = netlistOf (now (card .entry)) in ⌜ ((l : ℕ) → l < S·Signal .lanes → Carries (λ x. S·Signal .allows x l) stuck c (take (c .inputs) (now (nets .entry))) (take (netCount c) (now (nets .exit)))) ⌝ }
+    ensures definite_inputs_make_every_net_definite { λ _. let c = netlistOf (now (card .entry)) in ⌜ ((l : ℕ) → l < S·Signal .lanes → Carries (Only (λ x. S·Signal .allows x l)) stuck c (take (c .inputs) (now (nets .entry))) (take (netCount c) (now (nets .exit)))) ⌝ }
     ensures at_bits_each_function_means_its_name { λ _. ⌜ BitMeaning ⌝ }
 {
     let inputs = card.inputs();
