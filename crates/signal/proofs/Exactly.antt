@@ -14,12 +14,12 @@ use mathlib.Core.Path.{subst}
 
 module _ {S : Type 0} (allows : S → Bool → Type 0) where
   only-of-two : (op : S → S → S) (f : Bool → Bool → Bool)
-    → ((x y : S) (p q : Bool) → allows x p → allows y q → allows (op x y) (f p q)) → ((x y : S) (b : Bool) → allows (op x y) b → MadeOfTwo allows f x y b)
-    → (x y : S) (p q : Bool) → Only allows x p → Only allows y q → Only allows (op x y) (f p q)
+      → ((x y : S) (p q : Bool) → allows x p → allows y q → allows (op x y) (f p q)) → ((x y : S) (b : Bool) → allows (op x y) b → MadeOfTwo allows f x y b)
+      → (x y : S) (p q : Bool) → Only allows x p → Only allows y q → Only allows (op x y) (f p q)
   only-of-two op f there back x y p q r s =
       record {
         allowed = there x y p q (r .allowed) (s .allowed);
-        alone = λ c a. let m = back x y c a in sym (m .4) ∙ ap₂ f (r .alone (m .0) (m .2)) (s .alone (m .1) (m .3))
+        alone = λ c a. let m = back x y c a in sym (m .4) ∙ ap₂ f (r .alone (m .0) (m .2)) (s .alone (m .1) (m .3));
       }
 
   module _ (op : S → S → S) (f : Bool → Bool → Bool) (back : (x y : S) (b : Bool) → allows (op x y) b → MadeOfTwo allows f x y b) where
@@ -46,7 +46,7 @@ module _ {S : Type 0} (o : Operations S) (allows : S → Bool → Type 0) (exact
         negated = λ x p r. record { allowed = exact .sound .negated x p (r .allowed); alone = λ c a. let m = exact .negated x c a in sym (m .2) ∙ ap not (r .alone (m .0) (m .1)) };
         both = only-of-two allows (o .both) _&&_ (exact .sound .both) (exact .both);
         either = only-of-two allows (o .either) _||_ (exact .sound .either) (exact .either);
-        unlike = only-of-two allows (o .unlike) differ (exact .sound .unlike) (exact .unlike)
+        unlike = only-of-two allows (o .unlike) differ (exact .sound .unlike) (exact .unlike);
       }
 
   both-made : (xs : List S) (b : Bool) → allows (truth o And2 xs) b → MadeOfPins allows And2 xs b
@@ -59,7 +59,7 @@ module _ {S : Type 0} (o : Operations S) (allows : S → Bool → Type 0) (exact
   unlike-made = joined-made allows (o .unlike) differ (exact .unlike) (o .constant false) false (exact .constant false)
 
   negation-made : (f : Function) (xs : List S) (b : Bool) → ((c : Bool) → allows (truth o f xs) c → MadeOfPins allows f xs c)
-    → allows (o .negated (truth o f xs)) b → (bits : List Bool) × Everywhere allows xs bits × (not (truth bitOperations f bits) ≡ b)
+      → allows (o .negated (truth o f xs)) b → (bits : List Bool) × Everywhere allows xs bits × (not (truth bitOperations f bits) ≡ b)
   negation-made f xs b h a =
       let m = exact .negated (truth o f xs) b a in
       let r = h (m .0) (m .1) in
@@ -82,5 +82,5 @@ module _ {S : Type 0} (o : Operations S) (allows : S → Bool → Type 0) (exact
     gates-exact =
         record {
           allows-what-is-made = λ f pins b m. subst (λ (c : Bool). allows (truth o f pins) c) (m .2) (truth-kept o allows (exact .sound) f pins (m .0) (m .1));
-          makes-what-is-allowed = gate-made
+          makes-what-is-allowed = gate-made;
         }

@@ -76,5 +76,5 @@ bits-mean =
       nor-negates-or = λ bits. refl;
       xnor-negates-xor = λ bits. refl;
       zero-never = λ bits. refl;
-      one-always = λ bits. refl
+      one-always = λ bits. refl;
     }

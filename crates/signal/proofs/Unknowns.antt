@@ -31,7 +31,7 @@ same-self false = refl
 makes-back : (f : Bool → Bool) (x : Ternary) (b : Bool) → makes f x b ≡ true → MadeOfOne Allows f x b
 makes-back f x b e =
     ⊎-elim {C = MadeOfOne Allows f x b} (λ h. let r = and-parts _ _ h in (false, r .0, same-true (f false) b (r .1))) (λ h. let r = and-parts _ _ h in (true, r .0, same-true (f true) b (r .1)))
-      (or-cases (has x false && same (f false) b) (has x true && same (f true) b) e)
+    (or-cases (has x false && same (f false) b) (has x true && same (f true) b) e)
 
 makes-there : (f : Bool → Bool) (x : Ternary) (p : Bool) → Allows x p → makes f x (f p) ≡ true
 makes-there f x false a = or-left (has x false && same (f false) (f false)) (has x true && same (f true) (f false)) (and-from _ _ a (same-self (f false)))
@@ -40,9 +40,9 @@ makes-there f x true a = or-right (has x false && same (f false) (f true)) (has 
 two-back : (f : Bool → Bool → Bool) (x y : Ternary) (b : Bool) → makesOfTwo f x y b ≡ true → MadeOfTwo Allows f x y b
 two-back f x y b e =
     ⊎-elim {C = MadeOfTwo Allows f x y b}
-      (λ h. let r = and-parts (has x false) (makes (f false) y b) h in let m = makes-back (f false) y b (r .1) in (false, m .0, r .0, m .1, m .2))
-      (λ h. let r = and-parts (has x true) (makes (f true) y b) h in let m = makes-back (f true) y b (r .1) in (true, m .0, r .0, m .1, m .2))
-      (or-cases (has x false && makes (f false) y b) (has x true && makes (f true) y b) e)
+    (λ h. let r = and-parts (has x false) (makes (f false) y b) h in let m = makes-back (f false) y b (r .1) in (false, m .0, r .0, m .1, m .2))
+    (λ h. let r = and-parts (has x true) (makes (f true) y b) h in let m = makes-back (f true) y b (r .1) in (true, m .0, r .0, m .1, m .2))
+    (or-cases (has x false && makes (f false) y b) (has x true && makes (f true) y b) e)
 
 two-there : (f : Bool → Bool → Bool) (x y : Ternary) (p q : Bool) → Allows x p → Allows y q → makesOfTwo f x y (f p q) ≡ true
 two-there f x y false q a c = or-left (has x false && makes (f false) y (f false q)) (has x true && makes (f true) y (f false q)) (and-from _ _ a (makes-there (f false) y q c))
@@ -92,7 +92,7 @@ ternary-sound =
       negated = λ x p a. let t = makes-there not x p a in of-test (makes not x) (not p) t (not p) ∙ t;
       both = answer-there _&&_;
       either = answer-there _||_;
-      unlike = answer-there differ
+      unlike = answer-there differ;
     }
 
 pub ternary-exact : Exact ternaryOperations Allows
@@ -103,7 +103,7 @@ ternary-exact =
       negated = λ x b h. let i = ternary-inhabited x in makes-back not x b (sym (of-test (makes not x) (not (i .0)) (makes-there not x (i .0) (i .1)) b) ∙ h);
       both = answer-back _&&_;
       either = answer-back _||_;
-      unlike = answer-back differ
+      unlike = answer-back differ;
     }
 
 unknown : (x : Ternary) → Allows x false → Allows x true → x ≡ X
@@ -116,7 +116,8 @@ ternary-gates-exact = gates-exact ternaryOperations Allows ternary-exact ternary
 
 pub unknown-where-both-are-made : UnknownWhereBothAreMade
 unknown-where-both-are-made f pins =
-    let e = ternary-gates-exact in
-    (λ u.
-      (e .makes-what-is-allowed f pins false (ap (λ x. has x false) u), e .makes-what-is-allowed f pins true (ap (λ x. has x true) u))
-    , λ m. unknown (truth ternaryOperations f pins) (e .allows-what-is-made f pins false (m .0)) (e .allows-what-is-made f pins true (m .1)))
+    let e = ternary-gates-exact in (
+      λ u.
+          (e .makes-what-is-allowed f pins false (ap (λ x. has x false) u), e .makes-what-is-allowed f pins true (ap (λ x. has x true) u)),
+      λ m. unknown (truth ternaryOperations f pins) (e .allows-what-is-made f pins false (m .0)) (e .allows-what-is-made f pins true (m .1)),
+    )

@@ -61,7 +61,7 @@ module _ {S : Type 0} (o : Operations S) (t : Option Stuck) where
 
   -- net j + i has the value of gate i at all nets
   pub walked-at : (gs : List Gate) (j : ℕ) (xs : List S) (i : ℕ) (g : Gate) (d : S) → length xs ≡ j → Ordered j gs → i < length gs
-    → getD (walked o t j xs gs) (j + i) d ≡ gateNet o t (walked o t j xs gs) (j + i) (getD gs i g)
+      → getD (walked o t j xs gs) (j + i) d ≡ gateNet o t (walked o t j xs gs) (j + i) (getD gs i g)
   walked-at [] j xs i g d e r h = absurd (omega arith)
   walked-at (f ∷ gs) j xs zero g d e r h =
       let v = gateNet o t xs j f in
@@ -83,9 +83,9 @@ module _ {S : Type 0} (o : Operations S) (t : Option Stuck) where
     pub net-value-of-input : (j : ℕ) (d : S) → j < c .inputs → getD (netValues o t c xs) j d ≡ unlessStuck o t (sticksNet t j) (getD xs j d)
     net-value-of-input j d h =
         walked-keeps (c .gates) (c .inputs) (entered o t 0 xs) j d (simp length-entered (omega arith))
-          ∙ entered-at o t 0 xs j d (omega arith) ∙ ap (λ m. unlessStuck o t (sticksNet t m) (getD xs j d)) (omega arith)
+        ∙ entered-at o t 0 xs j d (omega arith) ∙ ap (λ m. unlessStuck o t (sticksNet t m) (getD xs j d)) (omega arith)
 
     -- the net of a gate has its gate's value at all nets
     pub net-value-of-gate : Lawful c → (i : ℕ) (g : Gate) (d : S) → i < length (c .gates)
-      → getD (netValues o t c xs) (c .inputs + i) d ≡ gateNet o t (netValues o t c xs) (c .inputs + i) (getD (c .gates) i g)
+        → getD (netValues o t c xs) (c .inputs + i) d ≡ gateNet o t (netValues o t c xs) (c .inputs + i) (getD (c .gates) i g)
     net-value-of-gate r i g d h = walked-at (c .gates) (c .inputs) (entered o t 0 xs) i g d (length-entered o t 0 xs ∙ fits) (r .ordered) h

@@ -46,8 +46,8 @@ ternaryOperations = record {
   negated = λ x. of (makes not x false) (makes not x true);
   both = λ x y. of (makesOfTwo _&&_ x y false) (makesOfTwo _&&_ x y true);
   either = λ x y. of (makesOfTwo _||_ x y false) (makesOfTwo _||_ x y true);
-  unlike = λ x y. of (makesOfTwo differ x y false) (makesOfTwo differ x y true)
-  }
+  unlike = λ x y. of (makesOfTwo differ x y false) (makesOfTwo differ x y true);
+}
 
 -- an answer is unknown exactly when the allowed bits, chosen independently for each pin, make both bits
 abbrev pub UnknownWhereBothAreMade : Type 0

@@ -80,5 +80,4 @@ pub impl Signal for Ternary as TernarySignal {
 pub fn ternary_stands()
     ensures gates_allow_exactly_what_some_choice_makes { λ _. ⌜ GatesExact ternaryOperations Allows ⌝ }
     ensures an_answer_is_unknown_exactly_where_both_bits_are_made { λ _. ⌜ UnknownWhereBothAreMade ⌝ }
-{
-}
+{}

@@ -1,113 +1,19 @@
 // The walk: gives each net of a card its value, from the values at the inputs, for any kind of signal,
 // with or without a line that sticks. It needs no memory and refuses nothing.
 ghost use mathlib.Core.Path.{_≡_};
-ghost use mathlib.Core.Bool.{false, true};
-ghost use mathlib.Core.List.{List};
 ghost use Prim.Native.Nat.{ℕ, _<_, _≤_};
-ghost use lib.ListN.{drop, getD, length, take};
-ghost use Rattle.card.specs.Netlists.{allBelow, nets as netCount, pinsOf};
+ghost use lib.ListN.{drop, length, take};
+ghost use Rattle.card.specs.Netlists.{nets as netCount};
 ghost use Rattle.card.specs.Views.{netlistOf};
-ghost use Rattle.signal.specs.Gates.{truth};
-ghost use Rattle.signal.specs.Joins.{ended, joins, unit};
 ghost use Rattle.signal.specs.Laws.{Only};
 ghost use Rattle.signal.specs.Lists.{Carries};
 ghost use Rattle.signal.specs.Meanings.{BitMeaning};
-ghost use Rattle.signal.specs.Walks.{entered, gateNet, levelOf, netValues, pinValues, sticksNet, sticksPin, unlessStuck};
-use card::function::Function;
-use card::gate::{Gate, Operands};
-use card::netlist::Card;
+ghost use Rattle.signal.specs.Walks.{entered, netValues};
 use crate::kind::Signal;
-use crate::line::{Line, Stuck};
-
-// What two pins of a gate make together, before the gate's last step.
-fn join<S: Signal + Copy>(function: Function, x: S, y: S) -> S
-    ensures joins_by_the_function { λ r. ⌜ r ≡ joins (S·Signal .operations) function x y ⌝ }
-{
-    match function {
-        Function::And2 | Function::Nand2 => S::and(x, y),
-        Function::Xor2 | Function::Xnor2 => S::xor(x, y),
-        _ => S::or(x, y),
-    }
-}
-
-// What stands for no pin at all.
-fn no_pin<S: Signal + Copy>(function: Function) -> S
-    ensures is_the_functions_unit { λ r. ⌜ r ≡ unit (S·Signal .operations) function ⌝ }
-{
-    match function {
-        Function::And2 | Function::Nand2 => S::constant(true),
-        _ => S::constant(false),
-    }
-}
-
-// A gate's last step: the negation, or the constant of a gate that reads nothing.
-fn end<S: Signal + Copy>(function: Function, x: S) -> S
-    ensures ends_by_the_function { λ r. ⌜ r ≡ ended (S·Signal .operations) function x ⌝ }
-{
-    match function {
-        Function::Ida | Function::And2 | Function::Or2 | Function::Xor2 => x,
-        Function::Inva | Function::Nand2 | Function::Nor2 | Function::Xnor2 => S::not(x),
-        Function::Zero => S::constant(false),
-        Function::One => S::constant(true),
-    }
-}
-
-// Whether a net sticks.
-fn sticks_net(stuck: Option<Stuck>, net: usize) -> bool
-    ensures tells_whether_the_net_sticks { λ r. ⌜ r ≡ sticksNet stuck net ⌝ }
-{
-    match stuck {
-        Some(Stuck { line: Line::Net(stuck_net), level: _ }) => stuck_net as usize == net,
-        _ => false,
-    }
-}
-
-// Whether a pin of the gate that makes a net sticks.
-fn sticks_pin(stuck: Option<Stuck>, net: usize, pin: u8) -> bool
-    ensures tells_whether_the_pin_sticks { λ r. ⌜ r ≡ sticksPin stuck net pin ⌝ }
-{
-    match stuck {
-        Some(Stuck { line: Line::Pin(stuck_net, stuck_pin), level: _ }) => stuck_net as usize == net && stuck_pin == pin,
-        _ => false,
-    }
-}
-
-// The stuck level where the test holds, else the value.
-fn unless_stuck<S: Signal + Copy>(stuck: Option<Stuck>, sticks: bool, x: S) -> S
-    ensures is_the_level_or_the_value { λ r. ⌜ r ≡ unlessStuck (S·Signal .operations) stuck sticks x ⌝ }
-{
-    match stuck {
-        Some(fault) if sticks => S::constant(fault.level),
-        _ if sticks => S::constant(false),
-        _ => x,
-    }
-}
-
-// The value at a pin: the stuck level where this pin sticks, else the value of the net that it reads.
-fn pin_value<S: Signal + Copy>(stuck: Option<Stuck>, nets: &[S; 256], net: usize, pin: u8, read: u16) -> S
-    requires reads_a_net { ⌜ read < 256 ⌝ }
-    ensures is_the_pins_value { λ r. ⌜ r ≡ unlessStuck (S·Signal .operations) stuck (sticksPin stuck net pin) (getD (now (nets .entry)) read (S·Signal .operations .constant false)) ⌝ }
-{
-    unless_stuck(stuck, sticks_pin(stuck, net, pin), nets[read as usize])
-}
-
-// The value of the net that a gate makes.
-fn gate_value<S: Signal + Copy>(gate: Gate, stuck: Option<Stuck>, nets: &[S; 256], net: usize) -> S
-    requires reads_nets { ⌜ allBelow 256 (pinsOf gate) ≡ true ⌝ }
-    ensures is_the_nets_value { λ r. ⌜ r ≡ gateNet (S·Signal .operations) stuck (now (nets .entry)) net gate ⌝ }
-{
-    let function = gate.function;
-    let joined = match gate.operands {
-        Operands::None => no_pin(function),
-        Operands::One(a) => pin_value(stuck, nets, net, 0, a),
-        Operands::Two(a, b) => {
-            let first = pin_value(stuck, nets, net, 0, a);
-            let second = pin_value(stuck, nets, net, 1, b);
-            join(function, first, second)
-        }
-    };
-    unless_stuck(stuck, sticks_net(stuck, net), end(function, joined))
-}
+use crate::line::Line;
+use crate::line::Stuck;
+use crate::value::gate_value;
+use card::netlist::Card;
 
 // Puts the stuck level in the place of an input that sticks.
 fn enter_stuck_input<S: Signal + Copy>(inputs: usize, stuck: Option<Stuck>, nets: &mut [S; 256])

@@ -5,5 +5,5 @@ pub returns : need.returns
 returns c =
     record {
       gates-allow-exactly-what-some-choice-makes = ternary-gates-exact;
-      an-answer-is-unknown-exactly-where-both-bits-are-made = unknown-where-both-are-made
+      an-answer-is-unknown-exactly-where-both-bits-are-made = unknown-where-both-are-made;
     }

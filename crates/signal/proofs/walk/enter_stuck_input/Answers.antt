@@ -11,7 +11,7 @@ returns-then-net-inputs g c =
     record {
       array-keeps-its-length = simp length-set;
       inputs-are-entered = entered-by-write (g .S·Signal .operations) (c .args .stuck) (c .in-Some .fault) (c .args .inputs) (c .in-Net .net) (c .constant .result) (c .args .nets .now) (c .in-Some .is) (c .in-Net .is) (c .if-net-inputs .taken) (c .constant .ensures .is-the-constant);
-      entries-behind-the-inputs-stay = drop-set-lt (c .args .inputs) (c .args .nets .now) (c .in-Net .net) (c .constant .result) (c .if-net-inputs .taken)
+      entries-behind-the-inputs-stay = drop-set-lt (c .args .inputs) (c .args .nets .now) (c .in-Net .net) (c .constant .result) (c .if-net-inputs .taken);
     }
 
 pub returns-else-net-inputs : need.returns-else-net-inputs
@@ -19,7 +19,7 @@ returns-else-net-inputs g c =
     record {
       array-keeps-its-length = refl;
       inputs-are-entered = entered-past (g .S·Signal .operations) (c .args .stuck) (c .in-Some .fault) (c .args .inputs) (c .in-Net .net) (c .args .nets .now) (c .in-Some .is) (c .in-Net .is) (c .if-net-inputs .left);
-      entries-behind-the-inputs-stay = refl
+      entries-behind-the-inputs-stay = refl;
     }
 
 pub returns-in-rest-line : need.returns-in-rest-line
@@ -27,7 +27,7 @@ returns-in-rest-line g c =
     record {
       array-keeps-its-length = refl;
       inputs-are-entered = sym (entered-pin (g .S·Signal .operations) (c .args .stuck) (c .in-Some .fault) _ _ 0 (take (c .args .inputs) (c .args .nets .now)) (c .in-Some .is) (c .in-rest-line .is));
-      entries-behind-the-inputs-stay = refl
+      entries-behind-the-inputs-stay = refl;
     }
 
 pub returns-in-rest : need.returns-in-rest
@@ -35,5 +35,5 @@ returns-in-rest g c =
     record {
       array-keeps-its-length = refl;
       inputs-are-entered = sym (ap (λ t. entered (g .S·Signal .operations) t 0 (take (c .args .inputs) (c .args .nets .now))) (c .in-rest .is) ∙ entered-none (g .S·Signal .operations) 0 (take (c .args .inputs) (c .args .nets .now)));
-      entries-behind-the-inputs-stay = refl
+      entries-behind-the-inputs-stay = refl;
     }
