@@ -1,5 +1,6 @@
 pub mod Places
 pub mod Keeping
+pub mod Below
 pub mod Entering
 pub mod Steps
 pub mod Walked

@@ -6,31 +6,17 @@ use Prim.Native.Nat.{ℕ, suc, _+_, _<_, _≤_}
 use native.Mathlib.Nat.{add-assoc, add-suc}
 use native.Mathlib.Numerals.{add-one}
 use native.Mathlib.Omega.{arith}
-use borrow.Author.Tests.{ltb-true, lt-ltb}
-use lib.Dec.{ltb}
 use lib.ListN.{length, getD, set, take, drop}
 use lib.Seq.{getD-take, take-suc-set, drop-set-lt, drop-drop}
 use Rattle.std.proofs.shelf.Lists.{at-drop-more, at-drop-all}
-use Rattle.std.proofs.shelf.Tests.{and-parts}
 use Rattle.std.specs.declared.option.Option.{Option}
 use Rattle.card.specs.declared.gate.Gate.{Gate}
 use Rattle.card.specs.Netlists.{Ordered, allBelow, pinsOf}
 use Rattle.signal.specs.declared.line.Stuck.{Stuck}
 use Rattle.signal.specs.Operations.{Operations}
 use Rattle.signal.specs.Gates.{truth}
+use Rattle.signal.proofs.Below.{below-head, below-tail}
 use Rattle.signal.specs.Walks.{unlessStuck, pinValues, gateNet, walked, entered, sticksPin, sticksNet}
-
-pub below-head : (n x : ℕ) (xs : List ℕ) → allBelow n (x ∷ xs) ≡ true → x < n
-below-head n x xs e = ltb-true x n (and-parts (ltb x n) (allBelow n xs) e .0)
-
-pub below-tail : (n x : ℕ) (xs : List ℕ) → allBelow n (x ∷ xs) ≡ true → allBelow n xs ≡ true
-below-tail n x xs e = and-parts (ltb x n) (allBelow n xs) e .1
-
--- a greater bound
-pub below-weaken : (n m : ℕ) (xs : List ℕ) → n ≤ m → allBelow n xs ≡ true → allBelow m xs ≡ true
-below-weaken n m [] h e = refl
-below-weaken n m (x ∷ xs) h e =
-    ap₂ _&&_ (lt-ltb x m (let l = below-head n x xs e in omega arith)) (below-weaken n m xs h (below-tail n x xs e))
 
 -- the pins of gate i, where the card's own counts k and gs are read off it as r and items
 pub ordered-at : (k r i : ℕ) (gs items : List Gate) (g : Gate) → r ≡ k → items ≡ gs → i < length items → Ordered k gs → allBelow (r + i) (pinsOf (getD items i g)) ≡ true

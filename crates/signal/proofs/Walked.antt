@@ -6,8 +6,8 @@ use Prim.Native.Nat.{ℕ, zero, suc, _+_, _<_, _≤_}
 use native.Mathlib.Nat.{add-zero, add-suc, suc-add}
 use native.Mathlib.Omega.{arith}
 use lib.ListN.{length, getD, take, length-append}
-use lib.Seq.{getD-take, take-at}
-use Rattle.std.proofs.shelf.Lists.{append-nil, getD-append-left, getD-push, length-push}
+use lib.Seq.{take-at}
+use Rattle.std.proofs.shelf.Lists.{append-nil, getD-append-left, getD-push}
 use Rattle.std.specs.declared.option.Option.{Option}
 use Rattle.card.specs.declared.gate.Gate.{Gate}
 use Rattle.card.specs.declared.function.Function.{Function}
@@ -33,10 +33,6 @@ truth-in-parts o Nor2 pins = refl
 truth-in-parts o Xnor2 pins = refl
 truth-in-parts o Zero pins = refl
 truth-in-parts o One pins = refl
-
--- an entry of an array whose first n entries are known
-pub entry-read : {S : Type 0} (n : ℕ) (xs values : List S) (i : ℕ) (d : S) → i < n → take n xs ≡ values → getD xs i d ≡ getD values i d
-entry-read n xs values i d h e = sym (getD-take n xs i d h) ∙ ap (λ ys. getD ys i d) e
 
 module _ {S : Type 0} (o : Operations S) (t : Option Stuck) where
   -- a walk begins with the nets that it starts from

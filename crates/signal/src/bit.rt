@@ -1,4 +1,5 @@
 // The plain bit as a kind of signal: a value allows itself and nothing else.
+// Its operations are the meaning of all other kinds, and its walk is the meaning of the good and of the faulty card.
 ghost use mathlib.Core.Path.{_≡_};
 ghost use Rattle.signal.specs.Operations.{bitOperations};
 use crate::kind::Signal;

@@ -1,3 +1,4 @@
+-- Both statements are lemmas on the three values.
 use Rattle.signal.proofs.Unknowns.{ternary-gates-exact, unknown-where-both-are-made}
 use Rattle.signal.proofs.ternary.ternary_stands.Needs as need
 
