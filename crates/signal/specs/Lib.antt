@@ -1,2 +1,9 @@
 pub mod Operations
 pub mod Laws
+pub mod Gates
+pub mod Joins
+pub mod Walks
+pub mod Lists
+pub mod Exacts
+pub mod Meanings
+pub mod Ternaries

@@ -1,8 +1,9 @@
 // The interface of a kind of signal: its operations, what its values allow, and the laws between the two.
+// The walk is written once against it, and its promises follow from the laws alone, so a new kind brings no new proof of the walk.
 ghost use mathlib.Core.Path.{_≡_};
 ghost use mathlib.Core.Bool.{Bool};
 ghost use Prim.Native.Nat.{ℕ, _<_};
-ghost use Rattle.signal.specs.Operations.{Operations, bitOperations};
+ghost use Rattle.signal.specs.Operations.{Operations};
 ghost use Rattle.signal.specs.Laws.{Definite, Inhabited, Sound};
 
 pub trait Signal: Sized {
