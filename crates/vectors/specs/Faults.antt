@@ -1,0 +1,7 @@
+-- The number that a refused vector is reported by.
+use Prim.Native.Nat.{ℕ}
+use Rattle.vectors.specs.declared.fault.VectorFault.{VectorFault}
+use Rattle.vectors.specs.declared.fault.VectorFault.the-variants.{NotInForm}
+
+abbrev pub vectorRefusal : VectorFault → ℕ
+vectorRefusal NotInForm = 16

@@ -1,0 +1,5 @@
+pub mod Allowed
+pub mod Vectors
+pub mod Views
+pub mod Rows
+pub mod Faults
