@@ -6,9 +6,9 @@ use Prim.Native.Nat.{ℕ, zero, suc, _+_, _-_, _*_, _/_, _%_, _^_, _<_, _≤_}
 use native.Mathlib.Nat.{div-one, zero-div, div-eq-of-lt, mul-comm, add-comm, pow-suc, mul-assoc, mod-lt}
 use native.Mathlib.Omega.{arith}
 use lib.Arith.{bin-ind}
-use lib.Bits.{bitAnd, bitOr, and-shr, or-shr, and-mod, or-mod}
+use lib.Bits.{bitAnd, bitOr, and-shr, or-shr, and-mod, or-mod, shifted-even}
 use lib.Dec.{eqb}
-use lib.Pow.{shr-shr, shl-shr, pow-pos, pow-add}
+use lib.Pow.{shr-shr, shl-shr, pow-pos, pow-add, split}
 use Rattle.std.proofs.shelf.Bits.{mod-below, div-add-mod', div-below, pow-below}
 use Rattle.vectors.specs.Vectors.{bitAt}
 
@@ -38,19 +38,19 @@ and-digit : (a b : ℕ) → eqb (bitAnd a b % 2) 1 ≡ (eqb (a % 2) 1 && eqb (b 
 and-digit a b = ap (λ (x : ℕ). eqb x 1) (and-mod a b 1) ∙ at (a % 2) (b % 2) (digit a) (digit b)
   where
     at : (x y : ℕ) → (x ≡ 0) ⊎ (x ≡ 1) → (y ≡ 0) ⊎ (y ≡ 1) → eqb (bitAnd x y) 1 ≡ (eqb x 1 && eqb y 1)
-    at x y (inl p) (inl q) = rw (p, q)
-    at x y (inl p) (inr q) = rw (p, q)
-    at x y (inr p) (inl q) = rw (p, q)
-    at x y (inr p) (inr q) = rw (p, q)
+    at x y (inl p) (inl q) = simp (p, q)
+    at x y (inl p) (inr q) = simp (p, q)
+    at x y (inr p) (inl q) = simp (p, q)
+    at x y (inr p) (inr q) = simp (p, q)
 
 or-digit : (a b : ℕ) → eqb (bitOr a b % 2) 1 ≡ (eqb (a % 2) 1 || eqb (b % 2) 1)
 or-digit a b = ap (λ (x : ℕ). eqb x 1) (or-mod a b 1) ∙ at (a % 2) (b % 2) (digit a) (digit b)
   where
     at : (x y : ℕ) → (x ≡ 0) ⊎ (x ≡ 1) → (y ≡ 0) ⊎ (y ≡ 1) → eqb (bitOr x y) 1 ≡ (eqb x 1 || eqb y 1)
-    at x y (inl p) (inl q) = rw (p, q)
-    at x y (inl p) (inr q) = rw (p, q)
-    at x y (inr p) (inl q) = rw (p, q)
-    at x y (inr p) (inr q) = rw (p, q)
+    at x y (inl p) (inl q) = simp (p, q)
+    at x y (inl p) (inr q) = simp (p, q)
+    at x y (inr p) (inl q) = simp (p, q)
+    at x y (inr p) (inr q) = simp (p, q)
 
 pub bit-and : (a b j : ℕ) → bitAt (bitAnd a b) j ≡ (bitAt a j && bitAt b j)
 bit-and a b j = ap (λ (x : ℕ). eqb (x % 2) 1) (and-shr a b j) ∙ and-digit (a / 2 ^ j) (b / 2 ^ j)
@@ -76,7 +76,14 @@ bit-shifted-at a j = ap (bitAt (a * 2 ^ j)) (omega arith) ∙ bit-shifted a j 0
 
 -- below j a number shifted up by j has no bit
 pub bit-shifted-below : (a j i : ℕ) → i < j → bitAt (a * 2 ^ j) i ≡ false
-bit-shifted-below a j i h = ?
+bit-shifted-below a j i h =
+    let d : ℕ = j - i - 1 in
+    let e : 2 ^ j ≡ 2 ^ suc d * 2 ^ i = ap (λ (x : ℕ). 2 ^ x) (omega arith) ∙ pow-add 2 (suc d) i in
+    ap (λ (x : ℕ). bitAt (a * x) i) e
+    ∙ ap (λ (x : ℕ). bitAt x i) (sym (mul-assoc a (2 ^ suc d) (2 ^ i)))
+    ∙ bit-shifted-at (a * 2 ^ suc d) i
+    ∙ bit-lowest (a * 2 ^ suc d)
+    ∙ ap (λ (x : ℕ). eqb x 1) (shifted-even a d)
 
 -- ---- numbers with the same bits are equal
 
@@ -108,4 +115,5 @@ same-bits = bin-ind (λ a. (b : ℕ) → ((j : ℕ) → bitAt a j ≡ bitAt b j)
 pub below-from-bits : (n k : ℕ) → ((j : ℕ) → k ≤ j → bitAt n j ≡ false) → n < 2 ^ k
 below-from-bits n k h =
     let z : n / 2 ^ k ≡ 0 = zero-from-bits (n / 2 ^ k) (λ j. sym (bit-add n k j) ∙ h (k + j) (omega arith)) in
-    ?
+    let e : n % 2 ^ k ≡ n = sym (ap (λ (x : ℕ). x * 2 ^ k + n % 2 ^ k) z ∙ omega arith) ∙ split n k in
+    omega (arith, e, mod-below n (2 ^ k) (pow-pos k))
