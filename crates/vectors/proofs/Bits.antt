@@ -111,9 +111,16 @@ same-bits = bin-ind (λ a. (b : ℕ) → ((j : ℕ) → bitAt a j ≡ bitAt b j)
     let lo : a % 2 ≡ b % 2 = digit-from a b (sym (bit-lowest a) ∙ h 0 ∙ bit-lowest b) in
     omega (arith, div-add-mod' a 2, div-add-mod' b 2))
 
--- a number with no bit from k on is below 2 ^ k
-pub below-from-bits : (n k : ℕ) → ((j : ℕ) → k ≤ j → bitAt n j ≡ false) → n < 2 ^ k
-below-from-bits n k h =
-    let z : n / 2 ^ k ≡ 0 = zero-from-bits (n / 2 ^ k) (λ j. sym (bit-add n k j) ∙ h (k + j) (omega arith)) in
+-- a number that a shift down by k leaves nothing of is below 2 ^ k
+pub below-from-shift : (n k : ℕ) → n / 2 ^ k ≡ 0 → n < 2 ^ k
+below-from-shift n k z =
     let e : n % 2 ^ k ≡ n = sym (ap (λ (x : ℕ). x * 2 ^ k + n % 2 ^ k) z ∙ omega arith) ∙ split n k in
     omega (arith, e, mod-below n (2 ^ k) (pow-pos k))
+
+-- a number with no bit from k on is below 2 ^ k
+pub below-from-bits : (n k : ℕ) → ((j : ℕ) → k ≤ j → bitAt n j ≡ false) → n < 2 ^ k
+below-from-bits n k h = below-from-shift n k (zero-from-bits (n / 2 ^ k) (λ j. sym (bit-add n k j) ∙ h (k + j) (omega arith)))
+
+-- a number below a power is below every higher one
+pub below-past : (n k m : ℕ) → n < 2 ^ k → k ≤ m → n < 2 ^ m
+below-past n k m l h = below-from-bits n m (λ j g. bit-past n k j l (omega arith))

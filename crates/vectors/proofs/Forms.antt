@@ -7,7 +7,6 @@ use native.Mathlib.Nat.{div-eq-of-lt}
 use native.Mathlib.Omega.{arith}
 use lib.Bits.{bitAnd}
 use lib.Dec.{eqb, ltb}
-use lib.Pow.{pow-mono}
 use Rattle.std.specs.Orderings.{Decides}
 use Rattle.std.proofs.shelf.Tests.{and-parts, and-from, and-left, and-right, ltb-true, lt-ltb, le-ltb, eqb-true, eq-eqb, ne-eqb, cases-lt}
 use Rattle.std.proofs.shelf.Ways.{decides-at}
