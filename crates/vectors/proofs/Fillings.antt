@@ -3,9 +3,11 @@ use mathlib.Core.Path.{_≡_, refl, sym, ap, ap₂, _∙_, subst}
 use mathlib.Core.List.{List, [], _∷_, _++_}
 use mathlib.Core.Bool.{Bool, true, false}
 use Prim.Native.Nat.{ℕ, zero, suc, _+_, _<_, _≤_}
-use native.Mathlib.Nat.{not-suc-le-zero}
+use native.Mathlib.Numerals.{add-one}
 use native.Mathlib.Omega.{arith}
-use lib.ListN.{length, getD}
+use lib.ListN.{length, getD, set, take}
+use Rattle.signal.specs.declared.ternary.Ternary.{Ternary}
+use Rattle.std.proofs.shelf.Lists.{take-more-set}
 use Rattle.vectors.specs.Allowed.{allows, AllowedBy}
 use Rattle.vectors.specs.Vectors.{Cells, bitAt, bitsFrom, cellOf, cellAt, cellsFrom, start, Fills, FilledByTheAllowed}
 
@@ -86,3 +88,11 @@ bits-at b j (suc n) (suc i) p q h = bits-at b (suc j) n i p (omega arith) (omega
 
 pub value-fills : (k : ℕ) (v : Cells) → Fills k v (bitsFrom (v .value) 0 k)
 value-fills k v = record { one-for-each = length-bits (v .value) 0 k; agrees = λ j h c. bits-at (v .value) 0 k j j (omega arith) h }
+
+-- ---- the cells entered into nets, one more
+
+pub entered-more : (v : Cells) (nets : List Ternary) (j : ℕ) (x : Ternary) → j < length nets → x ≡ cellAt v j → take j nets ≡ start j v → take (j + 1) (set nets j x) ≡ start (j + 1) v
+entered-more v nets j x h e p =
+    take-more-set nets j x h
+    ∙ ap₂ (λ (xs : List Ternary) (y : Ternary). xs ++ (y ∷ [])) p e
+    ∙ sym (ap (λ (n : ℕ). start n v) (add-one j) ∙ start-more v j)

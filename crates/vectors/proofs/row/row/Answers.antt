@@ -1,18 +1,54 @@
 -- One character more is read; a byte that is no character, or a wrong count, is no row.
-use borrow.Author.Needs.{needs}
+use mathlib.Core.Bool.{true, false}
+use mathlib.Core.Logic.{⊎-elim}
+use mathlib.Core.Path.{_≡_, refl, sym, subst, ap, _∙_}
+use Prim.Native.Nat.{ℕ, _<_}
+use native.Mathlib.Omega.{arith}
+use lib.ListN.{length, take}
+use Rattle.std.specs.Options.{isSome}
+use Rattle.std.proofs.shelf.Lists.{take-all}
+use Rattle.vectors.specs.Rows.{isRow, printed}
+use Rattle.vectors.specs.Vectors.{holding, InForm}
+use Rattle.vectors.proofs.Forms.{free-from-bits}
+use Rattle.vectors.proofs.Readings.{a-row, characters-more, no-row-by-byte, no-row-by-count, no-row-by-inputs, read-more, row-of-cells}
 use Rattle.vectors.proofs.row.row.Needs as need
 
 pub returns-then-bytes-inputs : need.returns-then-bytes-inputs
-returns-then-bytes-inputs c = ?
+returns-then-bytes-inputs c =
+    let e : false ≡ isRow (c .args .inputs) (c .args .bytes .now) = ⊎-elim (no-row-by-count (c .args .inputs) (c .args .bytes .now)) (λ w. no-row-by-inputs (c .args .inputs) (c .args .bytes .now) (w .1)) (c .then-bytes-inputs .either) in
+    record {
+      read-exactly-if-a-row = e;
+      every-row-of-cells-is-read = λ cells l h m. e ∙ row-of-cells (c .args .inputs) (c .args .bytes .now) cells l h m;
+      prints-back = tt;
+      is-in-form = tt
+    }
 
 pub returns-in-Break-cell : need.returns-in-Break-cell
-returns-in-Break-cell c = ?
+returns-in-Break-cell c =
+    let e : false ≡ isRow (c .args .inputs) (c .args .bytes .now) = no-row-by-byte (c .args .inputs) (c .args .bytes .now) (c .loop-j .j) (omega arith) (c .in-Break-cell .ensures tt .a-cells-character) (c .loop-j .inv .2) in
+    rw (c .from-residual .ensures) record {
+      read-exactly-if-a-row = e;
+      every-row-of-cells-is-read = λ cells l h m. e ∙ row-of-cells (c .args .inputs) (c .args .bytes .now) cells l h m;
+      prints-back = tt;
+      is-in-form = tt
+    }
 
 pub loop-j-again : need.loop-j-again
-loop-j-again c = ?
+loop-j-again c =
+    let h : c .loop-j .j < length (c .args .bytes .now) = omega arith in
+    let r = read-more (c .loop-j .care) (c .loop-j .value) (c .loop-j .j) (c .fixed .result) (c .level .result) (c .in-Continue-cell .cell) (c .args .bytes .now)
+      (omega arith) h (c .fixed .ensures .is-one-if-fixed) (c .level .ensures .is-the-cells-bit) (c .in-Continue-cell .ensures tt .has-that-character) (c .loop-j .inv .0) (c .loop-j .inv .1) in
+    (r .0, r .1, characters-more (c .args .bytes .now) (c .loop-j .j) h (c .in-Continue-cell .ensures tt .a-cells-character) (c .loop-j .inv .2))
 
 pub ghost-result : need.ghost-result
-ghost-result c = ?
+ghost-result c = (free-from-bits (c .loop-j .care) (c .loop-j .value) (c .loop-j .inv .0 .free-is-zero), tt)
 
 pub returns : need.returns
-returns c = ?
+returns c =
+    let all : c .loop-j .j ≡ c .args .inputs = omega arith in
+    record {
+      read-exactly-if-a-row = a-row (c .args .inputs) (c .args .bytes .now) (c .loop-j .j) (c .if-bytes-inputs .left) (omega arith) (omega arith) (c .loop-j .inv .2);
+      every-row-of-cells-is-read = λ _ _ _ _. refl;
+      prints-back = sym (ap (λ (k : ℕ). printed k (holding (c .loop-j .care) (c .loop-j .value))) all) ∙ c .loop-j .inv .1 ∙ take-all (c .loop-j .j) (c .args .bytes .now) (omega arith);
+      is-in-form = subst (λ (k : ℕ). InForm k (holding (c .loop-j .care) (c .loop-j .value))) all (c .loop-j .inv .0)
+    }
