@@ -1,15 +1,16 @@
 -- The bits of a number one by one: of `and` and `or`, of a shifted number, past the highest, and numbers with the same bits.
 use mathlib.Core.Path.{_≡_, refl, sym, ap, _∙_, subst}
 use mathlib.Core.Bool.{Bool, true, false, _&&_, _||_}
-use mathlib.Core.Logic.{_⊎_, inl, inr}
+use mathlib.Core.Logic.{_⊎_, inl, inr, ⊎-elim}
 use Prim.Native.Nat.{ℕ, zero, suc, _+_, _-_, _*_, _/_, _%_, _^_, _<_, _≤_}
-use native.Mathlib.Nat.{div-one, zero-div, div-eq-of-lt, mul-comm, add-comm, pow-suc, mul-assoc, mod-lt}
+use native.Mathlib.Nat.{div-one, zero-div, div-eq-of-lt, mul-assoc}
 use native.Mathlib.Omega.{arith}
 use lib.Arith.{bin-ind}
-use lib.Bits.{bitAnd, bitOr, and-shr, or-shr, and-mod, or-mod, shifted-even}
-use lib.Dec.{eqb}
+use lib.Bits.{bitAnd, bitOr, and-shr, or-shr, and-mod, or-mod, and-mask, shifted-even}
+use lib.Dec.{eqb, ltb}
 use lib.Pow.{shr-shr, shl-shr, pow-pos, pow-add, split}
-use Rattle.std.proofs.shelf.Bits.{mod-below, div-add-mod', div-below, pow-below}
+use Rattle.std.proofs.shelf.Bits.{mod-below, div-add-mod'}
+use Rattle.std.proofs.shelf.Tests.{cases-lt, eq-eqb, le-ltb, lt-ltb, ne-eqb}
 use Rattle.vectors.specs.Vectors.{bitAt}
 
 -- the lowest bit
@@ -57,6 +58,10 @@ bit-and a b j = ap (λ (x : ℕ). eqb (x % 2) 1) (and-shr a b j) ∙ and-digit (
 
 pub bit-or : (a b j : ℕ) → bitAt (bitOr a b) j ≡ (bitAt a j || bitAt b j)
 bit-or a b j = ap (λ (x : ℕ). eqb (x % 2) 1) (or-shr a b j) ∙ or-digit (a / 2 ^ j) (b / 2 ^ j)
+
+-- the lowest bit by a mask
+pub bit-masked : (n j : ℕ) → eqb (bitAnd (n / 2 ^ j) 1) 1 ≡ bitAt n j
+bit-masked n j = ap (λ (x : ℕ). eqb x 1) (and-mask (n / 2 ^ j) 1)
 
 -- ---- no bits, and a number shifted up
 
@@ -124,3 +129,13 @@ below-from-bits n k h = below-from-shift n k (zero-from-bits (n / 2 ^ k) (λ j. 
 -- a number below a power is below every higher one
 pub below-past : (n k m : ℕ) → n < 2 ^ k → k ≤ m → n < 2 ^ m
 below-past n k m l h = below-from-bits n m (λ j g. bit-past n k j l (omega arith))
+
+-- the test whether a shift leaves something is the comparison with the power
+pub below-by-shift : (n k : ℕ) → eqb (n / 2 ^ k) 0 ≡ ltb n (2 ^ k)
+below-by-shift n k = ⊎-elim
+    (λ h. eq-eqb (n / 2 ^ k) 0 (div-eq-of-lt h) ∙ sym (lt-ltb n (2 ^ k) h))
+    (λ h. ne-eqb (n / 2 ^ k) 0 (λ z. omega (arith, below-from-shift n k z)) ∙ sym (le-ltb n (2 ^ k) h))
+    (cases-lt n (2 ^ k))
+
+pub below-wide : (n w k : ℕ) → n < 2 ^ w → w ≤ k → true ≡ ltb n (2 ^ k)
+below-wide n w k l h = sym (lt-ltb n (2 ^ k) (below-past n w k l h))

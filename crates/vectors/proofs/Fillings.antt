@@ -7,6 +7,7 @@ use native.Mathlib.Numerals.{add-one}
 use native.Mathlib.Omega.{arith}
 use lib.ListN.{length, getD, set, take}
 use Rattle.signal.specs.declared.ternary.Ternary.{Ternary}
+use Rattle.signal.specs.declared.ternary.Ternary.the-variants.{X}
 use Rattle.std.proofs.shelf.Lists.{take-more-set}
 use Rattle.vectors.specs.Allowed.{allows, AllowedBy}
 use Rattle.vectors.specs.Vectors.{Cells, bitAt, bitsFrom, cellOf, cellAt, cellsFrom, start, Fills, FilledByTheAllowed}
@@ -24,6 +25,11 @@ cells-more v j (suc n) p e = ap (λ xs. cellAt v j ∷ xs) (cells-more v (suc j)
 
 pub start-more : (v : Cells) (n : ℕ) → start (suc n) v ≡ start n v ++ (cellAt v n ∷ [])
 start-more v n = cells-more v 0 n n (omega arith)
+
+pub cells-at : (v : Cells) (j n i p : ℕ) → p ≡ j + i → i < n → getD (cellsFrom v j n) i X ≡ cellAt v p
+cells-at v j zero i p q h = absurd (omega arith)
+cells-at v j (suc n) zero p q h = let s : j ≡ p = omega arith in ap (cellAt v) s
+cells-at v j (suc n) (suc i) p q h = cells-at v (suc j) n i p (omega arith) (omega arith)
 
 -- vectors with the same cells
 pub same-cells : (v w : Cells) (j n : ℕ) → ((i : ℕ) → j ≤ i → i < j + n → cellAt v i ≡ cellAt w i) → cellsFrom v j n ≡ cellsFrom w j n

@@ -1,16 +1,20 @@
--- The two comparisons of numbers decide whether a vector is in form.
-use mathlib.Core.Path.{_≡_, refl, sym, ap, _∙_}
+-- The two comparisons of numbers decide whether a vector is in form; vectors in form with the same cells are the same.
+use mathlib.Core.Path.{_≡_, refl, sym, ap, ap₂, _∙_}
+use mathlib.Core.List.{List}
 use mathlib.Core.Bool.{Bool, true, false, _&&_}
 use mathlib.Core.Logic.{⊎-elim}
-use Prim.Native.Nat.{ℕ, _/_, _^_, _<_, _≤_}
-use native.Mathlib.Nat.{div-eq-of-lt}
+use Prim.Native.Nat.{ℕ, _^_, _<_, _≤_}
 use native.Mathlib.Omega.{arith}
 use lib.Bits.{bitAnd}
 use lib.Dec.{eqb, ltb}
+use lib.ListN.{getD}
+use Rattle.signal.specs.declared.ternary.Ternary.{Ternary}
+use Rattle.signal.specs.declared.ternary.Ternary.the-variants.{Low, High, X}
 use Rattle.std.specs.Orderings.{Decides}
-use Rattle.std.proofs.shelf.Tests.{and-parts, and-from, and-left, and-right, ltb-true, lt-ltb, le-ltb, eqb-true, eq-eqb, ne-eqb, cases-lt}
+use Rattle.std.proofs.shelf.Tests.{and-parts, and-from, and-right, ltb-true, lt-ltb, eqb-true, eq-eqb, cases-lt}
 use Rattle.std.proofs.shelf.Ways.{decides-at}
-use Rattle.vectors.specs.Vectors.{bitAt, holding, InForm, inForm}
+use Rattle.vectors.specs.Vectors.{Cells, bitAt, cellAt, cellOf, holding, start, InForm, inForm}
+use Rattle.vectors.proofs.Fillings.{cells-at}
 use Rattle.vectors.proofs.Bits.{bit-and, bit-past, same-bits, below-from-bits}
 
 absorbs : (x y : Bool) → (y ≡ false → x ≡ false) → (x && y) ≡ x
@@ -37,17 +41,40 @@ decides-in-form k c b =
 pub judges : (k c b : ℕ) (r : Bool) → r ≡ inForm k c b → Decides r (InForm k (holding c b))
 judges k c b r e = decides-at r (inForm k c b) e (decides-in-form k c b)
 
--- ---- the tests of the code
+-- ---- the numbers of a vector in form are those of its cells
 
--- a fixed input from k on
-pub refused-past : (k c b : ℕ) → (c / 2 ^ k ≡ 0 → ⊥) → false ≡ inForm k c b
-refused-past k c b h =
-    sym (and-left (ltb c (2 ^ k)) (eqb (bitAnd b c) b)
-    (le-ltb c (2 ^ k) (⊎-elim (λ l. absurd (h (div-eq-of-lt l))) (λ l. l) (cases-lt c (2 ^ k)))))
+isFixed : Ternary → Bool
+isFixed Low = true
+isFixed High = true
+isFixed X = false
 
--- a bit without care
-pub refused-bit : (k c b : ℕ) → (bitAnd b c ≡ b → ⊥) → false ≡ inForm k c b
-refused-bit k c b h = sym (and-right (ltb c (2 ^ k)) (eqb (bitAnd b c) b) (ne-eqb (bitAnd b c) b h))
+isHigh : Ternary → Bool
+isHigh Low = false
+isHigh High = true
+isHigh X = false
 
-pub taken : (k c b : ℕ) → c < 2 ^ k → bitAnd b c ≡ b → true ≡ inForm k c b
-taken k c b l e = sym (and-from (ltb c (2 ^ k)) (eqb (bitAnd b c) b) (lt-ltb c (2 ^ k) l) (eq-eqb (bitAnd b c) b e))
+fixed-of-cell : (x y : Bool) → isFixed (cellOf x y) ≡ x
+unfolding isFixed
+fixed-of-cell false y = refl
+fixed-of-cell true false = refl
+fixed-of-cell true true = refl
+
+high-of-cell : (x y : Bool) → (x ≡ false → y ≡ false) → isHigh (cellOf x y) ≡ y
+unfolding isHigh
+high-of-cell false y h = sym (h refl)
+high-of-cell true false h = refl
+high-of-cell true true h = refl
+
+-- two vectors in form with the same cells are the same
+pub same-from-cells : (k : ℕ) (v w : Cells) → InForm k v → InForm k w → start k v ≡ start k w → v ≡ w
+same-from-cells k v w f g e =
+    ap₂ holding
+      (same-bits (v .care) (w .care) (λ j. ⊎-elim
+        (λ h. sym (fixed-of-cell (bitAt (v .care) j) (bitAt (v .value) j)) ∙ ap isFixed (cell j h) ∙ fixed-of-cell (bitAt (w .care) j) (bitAt (w .value) j))
+        (λ h. f .within j h ∙ sym (g .within j h)) (cases-lt j k)))
+      (same-bits (v .value) (w .value) (λ j. ⊎-elim
+        (λ h. sym (high-of-cell (bitAt (v .care) j) (bitAt (v .value) j) (f .free-is-zero j)) ∙ ap isHigh (cell j h) ∙ high-of-cell (bitAt (w .care) j) (bitAt (w .value) j) (g .free-is-zero j))
+        (λ h. f .free-is-zero j (f .within j h) ∙ sym (g .free-is-zero j (g .within j h))) (cases-lt j k)))
+  where
+    cell : (j : ℕ) → j < k → cellAt v j ≡ cellAt w j
+    cell j h = sym (cells-at v 0 k j j (omega arith) h) ∙ ap (λ (xs : List Ternary). getD xs j X) e ∙ cells-at w 0 k j j (omega arith) h

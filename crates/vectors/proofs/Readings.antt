@@ -1,7 +1,7 @@
--- One character more of a row that is read: the cell that it adds, and that the vector stays in form.
+-- Rows of characters: what is a row, that a row tells its vector, and one character more of a row that is read.
 use mathlib.Core.Path.{_≡_, refl, sym, ap, ap₂, subst, _∙_}
 use mathlib.Core.List.{List, [], _∷_, _++_, map}
-use mathlib.Core.Bool.{Bool, true, false, _&&_, _||_}
+use mathlib.Core.Bool.{Bool, true, false, cond, _&&_, _||_}
 use mathlib.Core.Logic.{⊎-elim}
 use Prim.Native.Nat.{ℕ, suc, _+_, _-_, _*_, _%_, _^_, _<_, _≤_}
 use native.Mathlib.Nat.{zero-mul}
@@ -19,6 +19,7 @@ use Rattle.vectors.specs.Vectors.{Cells, holding, bitAt, cellOf, cellAt, start
 use Rattle.vectors.specs.Rows.{characterOf, isCharacter, allCharacters, isRow, fixedBit, levelBit, placed, printed}
 use Rattle.vectors.proofs.Bits.{bit-of-zero, bit-or, bit-past, bit-shifted, bit-shifted-at, bit-shifted-below}
 use Rattle.vectors.proofs.Fillings.{start-more, same-cells}
+use Rattle.vectors.proofs.Forms.{same-from-cells}
 
 -- every list of cells is spelled by characters
 pub spelled : (cells : List Ternary) → allCharacters (map characterOf cells) ≡ true
@@ -33,6 +34,20 @@ row-of-cells k bs cells l h e =
     and-from (eqb (length bs) k) (leb k 32 && allCharacters bs)
       (eq-eqb (length bs) k (sym (ap length e) ∙ length-map cells characterOf ∙ l))
       (and-from (leb k 32) (allCharacters bs) (le-leb k 32 h) (sym (ap allCharacters e) ∙ spelled cells))
+
+-- a character tells its cell, so a row tells the cells, and the vector in form
+cellFor : ℕ → Ternary
+cellFor b = cond (eqb b 48) Low (cond (eqb b 49) High X)
+
+cells-for : (cells : List Ternary) → map cellFor (map characterOf cells) ≡ cells
+unfolding cellFor
+cells-for [] = refl
+cells-for (Low ∷ ts) = ap (λ (xs : List Ternary). Low ∷ xs) (cells-for ts)
+cells-for (High ∷ ts) = ap (λ (xs : List Ternary). High ∷ xs) (cells-for ts)
+cells-for (X ∷ ts) = ap (λ (xs : List Ternary). X ∷ xs) (cells-for ts)
+
+pub same-from-print : (k : ℕ) (v w : Cells) → InForm k v → InForm k w → printed k v ≡ printed k w → v ≡ w
+same-from-print k v w f g e = same-from-cells k v w f g (sym (cells-for (start k v)) ∙ ap (map cellFor) e ∙ cells-for (start k w))
 
 -- ---- a cell placed at input j
 

@@ -8,7 +8,7 @@ ghost use lib.ListN.{length};
 ghost use Rattle.std.specs.Options.{Cases as BySome, isSome};
 ghost use Rattle.signal.specs.declared.ternary.Ternary.{Ternary as Cell};
 ghost use Rattle.vectors.specs.Rows.{characterOf, fixedBit, isCharacter, isRow, levelBit, printed};
-ghost use Rattle.vectors.specs.Vectors.{InForm};
+ghost use Rattle.vectors.specs.Vectors.{Cells, InForm};
 ghost use Rattle.vectors.specs.Views.{cellsOf};
 use crate::vector::Vector;
 use signal::ternary::Ternary;
@@ -61,6 +61,7 @@ fn level(cell: Ternary) -> u32
 pub fn row(bytes: &[u8], inputs: usize) -> Option<Vector>
     ensures read_exactly_if_a_row { λ r. ⌜ isSome r ≡ isRow inputs (now (bytes .entry)) ⌝ }
     ensures every_row_of_cells_is_read { λ r. ⌜ ((cells : List Cell) → length cells ≡ inputs → inputs ≤ 32 → map characterOf cells ≡ now (bytes .entry) → isSome r ≡ true) ⌝ }
+    ensures a_printed_vector_reads_back { λ r. ⌜ ((v : Cells) → InForm inputs v → inputs ≤ 32 → printed inputs v ≡ now (bytes .entry) → BySome r ⊥ (λ w. cellsOf w ≡ v)) ⌝ }
     ensures prints_back { λ r. ⌜ BySome r (Unit {0}) (λ v. printed inputs (cellsOf v) ≡ now (bytes .entry)) ⌝ }
     ensures is_in_form { λ r. ⌜ BySome r (Unit {0}) (λ v. InForm inputs (cellsOf v)) ⌝ }
 {

@@ -4,21 +4,23 @@ use mathlib.Core.Logic.{⊎-elim}
 use mathlib.Core.Path.{_≡_, refl, sym, subst, ap, _∙_}
 use Prim.Native.Nat.{ℕ, _<_}
 use native.Mathlib.Omega.{arith}
-use lib.ListN.{length, take}
-use Rattle.std.specs.Options.{isSome}
+use lib.ListN.{length}
 use Rattle.std.proofs.shelf.Lists.{take-all}
+use Rattle.std.proofs.shelf.Tests.{false≢true}
 use Rattle.vectors.specs.Rows.{isRow, printed}
-use Rattle.vectors.specs.Vectors.{holding, InForm}
+use Rattle.vectors.specs.Vectors.{Cells, holding, start, InForm}
+use Rattle.vectors.proofs.Fillings.{length-cells}
 use Rattle.vectors.proofs.Forms.{free-from-bits}
-use Rattle.vectors.proofs.Readings.{a-row, characters-more, no-row-by-byte, no-row-by-count, no-row-by-inputs, read-more, row-of-cells}
+use Rattle.vectors.proofs.Readings.{a-row, characters-more, no-row-by-byte, no-row-by-count, no-row-by-inputs, read-more, row-of-cells, same-from-print}
 use Rattle.vectors.proofs.row.row.Needs as need
 
 pub returns-then-bytes-inputs : need.returns-then-bytes-inputs
 returns-then-bytes-inputs c =
-    let e : false ≡ isRow (c .args .inputs) (c .args .bytes .now) = ⊎-elim (no-row-by-count (c .args .inputs) (c .args .bytes .now)) (λ w. no-row-by-inputs (c .args .inputs) (c .args .bytes .now) (w .1)) (c .then-bytes-inputs .either) in
+    let e : false ≡ isRow (c .args .inputs) (c .args .bytes .now) = ⊎-elim (no-row-by-count (c .args .inputs) (c .args .bytes .now)) (λ w. no-row-by-inputs (c .args .inputs) (c .args .bytes .now) (omega (arith, w .1))) (c .then-bytes-inputs .either) in
     record {
       read-exactly-if-a-row = e;
       every-row-of-cells-is-read = λ cells l h m. e ∙ row-of-cells (c .args .inputs) (c .args .bytes .now) cells l h m;
+      a-printed-vector-reads-back = λ v _ h m. false≢true (e ∙ row-of-cells (c .args .inputs) (c .args .bytes .now) (start (c .args .inputs) v) (length-cells v 0 (c .args .inputs)) h m);
       prints-back = tt;
       is-in-form = tt
     }
@@ -29,6 +31,7 @@ returns-in-Break-cell c =
     rw (c .from-residual .ensures) record {
       read-exactly-if-a-row = e;
       every-row-of-cells-is-read = λ cells l h m. e ∙ row-of-cells (c .args .inputs) (c .args .bytes .now) cells l h m;
+      a-printed-vector-reads-back = λ v _ h m. false≢true (e ∙ row-of-cells (c .args .inputs) (c .args .bytes .now) (start (c .args .inputs) v) (length-cells v 0 (c .args .inputs)) h m);
       prints-back = tt;
       is-in-form = tt
     }
@@ -46,9 +49,14 @@ ghost-result c = (free-from-bits (c .loop-j .care) (c .loop-j .value) (c .loop-j
 pub returns : need.returns
 returns c =
     let all : c .loop-j .j ≡ c .args .inputs = omega arith in
+    let w : Cells = holding (c .loop-j .care) (c .loop-j .value) in
+    let back : printed (c .args .inputs) w ≡ c .args .bytes .now =
+      sym (ap (λ (k : ℕ). printed k w) all) ∙ c .loop-j .inv .1 ∙ take-all (c .loop-j .j) (c .args .bytes .now) (omega arith) in
+    let form : InForm (c .args .inputs) w = subst (λ (k : ℕ). InForm k w) all (c .loop-j .inv .0) in
     record {
       read-exactly-if-a-row = a-row (c .args .inputs) (c .args .bytes .now) (c .loop-j .j) (c .if-bytes-inputs .left) (omega arith) (omega arith) (c .loop-j .inv .2);
       every-row-of-cells-is-read = λ _ _ _ _. refl;
-      prints-back = sym (ap (λ (k : ℕ). printed k (holding (c .loop-j .care) (c .loop-j .value))) all) ∙ c .loop-j .inv .1 ∙ take-all (c .loop-j .j) (c .args .bytes .now) (omega arith);
-      is-in-form = subst (λ (k : ℕ). InForm k (holding (c .loop-j .care) (c .loop-j .value))) all (c .loop-j .inv .0)
+      a-printed-vector-reads-back = λ v f _ m. same-from-print (c .args .inputs) w v form f (back ∙ sym m);
+      prints-back = back;
+      is-in-form = form
     }

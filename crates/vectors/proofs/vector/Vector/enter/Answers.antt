@@ -3,6 +3,7 @@ use mathlib.Core.Path.{_≡_, sym, subst, _∙_}
 use mathlib.Core.List.{List}
 use Prim.Native.Nat.{ℕ, _<_}
 use native.Mathlib.Omega.{arith}
+use borrow.Author.Needs.{needs}
 use lib.ListN.{drop, length, take}
 use Rattle.signal.specs.declared.ternary.Ternary.{Ternary}
 use Rattle.std.proofs.shelf.Lists.{drop-set-lt, length-set}
@@ -15,7 +16,7 @@ pub loop-j-again : need.loop-j-again
 loop-j-again c =
     let h : c .loop-j .j < length (c .loop-j .nets) = omega (arith, c .loop-j .inv .0, c .inputs-inputs .ensures .every-card-keeps-the-rules .inputs-fit) in
     (length-set (c .loop-j .nets) (c .loop-j .j) (c .cell .result) ∙ c .loop-j .inv .0,
-     entered-more (cellsOf (c .args .self .now)) (c .loop-j .nets) (c .loop-j .j) (c .cell .result) h (c .cell .ensures .is-the-inputs-cell) (c .loop-j .inv .1),
+     entered-more (cellsOf (c .args .self .now)) (c .loop-j .nets) (c .loop-j .j) (c .cell .result) h (search needs) (c .loop-j .inv .1),
      drop-set-lt (c .inputs-inputs .result) (c .loop-j .nets) (c .loop-j .j) (c .cell .result) (c .loop-j-test .taken) ∙ c .loop-j .inv .2)
 
 pub returns : need.returns
