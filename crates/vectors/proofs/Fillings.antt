@@ -57,9 +57,10 @@ allowed-from : (v : Cells) (j n : ℕ) (bits : List Bool) → length bits ≡ n 
 allowed-from v j zero [] e f = tt
 allowed-from v j zero (b ∷ bs) e f = absurd (omega arith)
 allowed-from v j (suc n) [] e f = absurd (omega arith)
-allowed-from v j (suc n) (b ∷ bs) e f =
-    (allows-from (bitAt (v .care) j) (bitAt (v .value) j) b (f 0 j (omega arith) (omega arith)),
-     allowed-from v (suc j) n bs (omega arith) (λ i p q h. f (suc i) p (omega arith) (omega arith)))
+allowed-from v j (suc n) (b ∷ bs) e f = (
+  allows-from (bitAt (v .care) j) (bitAt (v .value) j) b (f 0 j (omega arith) (omega arith)),
+  allowed-from v (suc j) n bs (omega arith) (λ i p q h. f (suc i) p (omega arith) (omega arith)),
+)
 
 length-from : (v : Cells) (j n : ℕ) (bits : List Bool) → AllowedBy (cellsFrom v j n) bits → length bits ≡ n
 length-from v j zero [] a = refl
@@ -77,9 +78,10 @@ agrees-from v j (suc n) (b ∷ bs) a (suc i) p q h c = agrees-from v (suc j) n b
 
 -- a setting fills a vector exactly if every cell allows its bit
 pub filled-by-the-allowed : (k : ℕ) (v : Cells) → FilledByTheAllowed k v (start k v)
-filled-by-the-allowed k v bits =
-    (λ f. allowed-from v 0 k bits (f .one-for-each) (λ i p q h c. let s : p ≡ i = omega arith in subst (λ (x : ℕ). getD bits x false ≡ bitAt (v .value) p) s (f .agrees p (omega arith) c)),
-     λ a. record { one-for-each = length-from v 0 k bits a; agrees = λ j h c. agrees-from v 0 k bits a j j (omega arith) h c })
+filled-by-the-allowed k v bits = (
+  λ f. allowed-from v 0 k bits (f .one-for-each) (λ i p q h c. let s : p ≡ i = omega arith in subst (λ (x : ℕ). getD bits x false ≡ bitAt (v .value) p) s (f .agrees p (omega arith) c)),
+  λ a. record { one-for-each = length-from v 0 k bits a; agrees = λ j h c. agrees-from v 0 k bits a j j (omega arith) h c },
+)
 
 -- ---- the value bits are a filling
 

@@ -34,9 +34,10 @@ in-form-from k c b l e = record { within = λ j h. bit-past c k j l h; free-is-z
 
 -- the test by numbers decides what is meant bit by bit
 pub decides-in-form : (k c b : ℕ) → Decides (inForm k c b) (InForm k (holding c b))
-decides-in-form k c b =
-    (λ t. let p = and-parts (ltb c (2 ^ k)) (eqb (bitAnd b c) b) t in in-form-from k c b (ltb-true c (2 ^ k) (p .0)) (eqb-true (bitAnd b c) b (p .1)),
-     λ f. and-from (ltb c (2 ^ k)) (eqb (bitAnd b c) b) (lt-ltb c (2 ^ k) (below-from-bits c k (f .within))) (eq-eqb (bitAnd b c) b (free-from-bits c b (f .free-is-zero))))
+decides-in-form k c b = (
+  λ t. let p = and-parts (ltb c (2 ^ k)) (eqb (bitAnd b c) b) t in in-form-from k c b (ltb-true c (2 ^ k) (p .0)) (eqb-true (bitAnd b c) b (p .1)),
+  λ f. and-from (ltb c (2 ^ k)) (eqb (bitAnd b c) b) (lt-ltb c (2 ^ k) (below-from-bits c k (f .within))) (eq-eqb (bitAnd b c) b (free-from-bits c b (f .free-is-zero))),
+)
 
 pub judges : (k c b : ℕ) (r : Bool) → r ≡ inForm k c b → Decides r (InForm k (holding c b))
 judges k c b r e = decides-at r (inForm k c b) e (decides-in-form k c b)
@@ -69,12 +70,12 @@ high-of-cell true true h = refl
 pub same-from-cells : (k : ℕ) (v w : Cells) → InForm k v → InForm k w → start k v ≡ start k w → v ≡ w
 same-from-cells k v w f g e =
     ap₂ holding
-      (same-bits (v .care) (w .care) (λ j. ⊎-elim
-        (λ h. sym (fixed-of-cell (bitAt (v .care) j) (bitAt (v .value) j)) ∙ ap isFixed (cell j h) ∙ fixed-of-cell (bitAt (w .care) j) (bitAt (w .value) j))
-        (λ h. f .within j h ∙ sym (g .within j h)) (cases-lt j k)))
-      (same-bits (v .value) (w .value) (λ j. ⊎-elim
-        (λ h. sym (high-of-cell (bitAt (v .care) j) (bitAt (v .value) j) (f .free-is-zero j)) ∙ ap isHigh (cell j h) ∙ high-of-cell (bitAt (w .care) j) (bitAt (w .value) j) (g .free-is-zero j))
-        (λ h. f .free-is-zero j (f .within j h) ∙ sym (g .free-is-zero j (g .within j h))) (cases-lt j k)))
+    (same-bits (v .care) (w .care) (λ j. ⊎-elim
+    (λ h. sym (fixed-of-cell (bitAt (v .care) j) (bitAt (v .value) j)) ∙ ap isFixed (cell j h) ∙ fixed-of-cell (bitAt (w .care) j) (bitAt (w .value) j))
+    (λ h. f .within j h ∙ sym (g .within j h)) (cases-lt j k)))
+    (same-bits (v .value) (w .value) (λ j. ⊎-elim
+    (λ h. sym (high-of-cell (bitAt (v .care) j) (bitAt (v .value) j) (f .free-is-zero j)) ∙ ap isHigh (cell j h) ∙ high-of-cell (bitAt (w .care) j) (bitAt (w .value) j) (g .free-is-zero j))
+    (λ h. f .free-is-zero j (f .within j h) ∙ sym (g .free-is-zero j (g .within j h))) (cases-lt j k)))
   where
     cell : (j : ℕ) → j < k → cellAt v j ≡ cellAt w j
     cell j h = sym (cells-at v 0 k j j (omega arith) h) ∙ ap (λ (xs : List Ternary). getD xs j X) e ∙ cells-at w 0 k j j (omega arith) h

@@ -14,7 +14,7 @@ use Rattle.signal.specs.declared.ternary.Ternary.{Ternary}
 use Rattle.signal.specs.declared.ternary.Ternary.the-variants.{Low, High, X}
 use Rattle.std.proofs.shelf.Bits.{shl-whole}
 use Rattle.std.proofs.shelf.Lists.{at-drop-all, at-drop-more, length-map, map-push, take-more}
-use Rattle.std.proofs.shelf.Tests.{and-from, and-left, and-right, cases-lt, eq-eqb, le-leb, lt-leb, ne-eqb, or-from, or-parts}
+use Rattle.std.proofs.shelf.Tests.{and-from, and-right, cases-lt, eq-eqb, le-leb, or-from, or-parts}
 use Rattle.vectors.specs.Vectors.{Cells, holding, bitAt, cellOf, cellAt, start, InForm}
 use Rattle.vectors.specs.Rows.{characterOf, isCharacter, allCharacters, isRow, fixedBit, levelBit, placed, printed}
 use Rattle.vectors.proofs.Bits.{bit-of-zero, bit-or, bit-past, bit-shifted, bit-shifted-at, bit-shifted-below}
@@ -32,8 +32,8 @@ spelled (X ∷ ts) = spelled ts
 pub row-of-cells : (k : ℕ) (bs : List ℕ) (cells : List Ternary) → length cells ≡ k → k ≤ 32 → map characterOf cells ≡ bs → isRow k bs ≡ true
 row-of-cells k bs cells l h e =
     and-from (eqb (length bs) k) (leb k 32 && allCharacters bs)
-      (eq-eqb (length bs) k (sym (ap length e) ∙ length-map cells characterOf ∙ l))
-      (and-from (leb k 32) (allCharacters bs) (le-leb k 32 h) (sym (ap allCharacters e) ∙ spelled cells))
+    (eq-eqb (length bs) k (sym (ap length e) ∙ length-map cells characterOf ∙ l))
+    (and-from (leb k 32) (allCharacters bs) (le-leb k 32 h) (sym (ap allCharacters e) ∙ spelled cells))
 
 -- a character tells its cell, so a row tells the cells, and the vector in form
 cellFor : ℕ → Ternary
@@ -93,11 +93,11 @@ in-form-none = record { within = λ j _. bit-of-zero j; free-is-zero = λ j _. b
 -- the inputs below j are read: the cell of input j joins them
 pub in-form-more : (v : Cells) (j : ℕ) (t : Ternary) → InForm j v → InForm (suc j) (placed v j t)
 in-form-more v j t f = record {
-    within = λ i h. bit-kept (v .care) (fixedBit t) j i (below-two t .0) (λ e. omega arith) ∙ f .within i (omega arith);
-    free-is-zero = λ i h.
+  within = λ i h. bit-kept (v .care) (fixedBit t) j i (below-two t .0) (λ e. omega arith) ∙ f .within i (omega arith);
+  free-is-zero = λ i h.
       let p = or-parts (bitAt (v .care) i) (bitAt (fixedBit t * 2 ^ j) i) (sym (bit-or (v .care) (fixedBit t * 2 ^ j) i) ∙ h) in
-      bit-or (v .value) (levelBit t * 2 ^ j) i ∙ or-from (bitAt (v .value) i) (bitAt (levelBit t * 2 ^ j) i) (f .free-is-zero i (p .0)) (level-under t j i (p .1))
-  }
+      bit-or (v .value) (levelBit t * 2 ^ j) i ∙ or-from (bitAt (v .value) i) (bitAt (levelBit t * 2 ^ j) i) (f .free-is-zero i (p .0)) (level-under t j i (p .1));
+}
 
 pub start-placed : (v : Cells) (j : ℕ) (t : Ternary) → InForm j v → start (suc j) (placed v j t) ≡ start j v ++ (t ∷ [])
 start-placed v j t f =
@@ -115,39 +115,34 @@ shifted-whole d j l h = shl-whole d 1 j 32 l (omega arith)
 pub placed-by-shifts : (c b j f l : ℕ) (t : Ternary) → j < 32 → f ≡ fixedBit t → l ≡ levelBit t → holding (bitOr c ((f * 2 ^ j) % 2 ^ 32)) (bitOr b ((l * 2 ^ j) % 2 ^ 32)) ≡ placed (holding c b) j t
 placed-by-shifts c b j f l t h ef el =
     ap₂ (λ (x y : ℕ). holding (bitOr c x) (bitOr b y))
-      (ap (λ (d : ℕ). (d * 2 ^ j) % 2 ^ 32) ef ∙ shifted-whole (fixedBit t) j (below-two t .0) h)
-      (ap (λ (d : ℕ). (d * 2 ^ j) % 2 ^ 32) el ∙ shifted-whole (levelBit t) j (below-two t .1) h)
+    (ap (λ (d : ℕ). (d * 2 ^ j) % 2 ^ 32) ef ∙ shifted-whole (fixedBit t) j (below-two t .0) h)
+    (ap (λ (d : ℕ). (d * 2 ^ j) % 2 ^ 32) el ∙ shifted-whole (levelBit t) j (below-two t .1) h)
 
 -- ---- the bytes below j are read, and byte j is the character of a cell
 
 pub read-more : (c b j f l : ℕ) (t : Ternary) (bs : List ℕ) → j < 32 → j < length bs → f ≡ fixedBit t → l ≡ levelBit t → characterOf t ≡ getD bs j 0
-  → InForm j (holding c b) → printed j (holding c b) ≡ take j bs
-  → InForm (j + 1) (holding (bitOr c ((f * 2 ^ j) % 2 ^ 32)) (bitOr b ((l * 2 ^ j) % 2 ^ 32)))
+    → InForm j (holding c b) → printed j (holding c b) ≡ take j bs
+    → InForm (j + 1) (holding (bitOr c ((f * 2 ^ j) % 2 ^ 32)) (bitOr b ((l * 2 ^ j) % 2 ^ 32)))
     × (printed (j + 1) (holding (bitOr c ((f * 2 ^ j) % 2 ^ 32)) (bitOr b ((l * 2 ^ j) % 2 ^ 32))) ≡ take (j + 1) bs)
 read-more c b j f l t bs h k ef el ch form p =
     let v : Cells = holding c b in
     let w : Cells = holding (bitOr c ((f * 2 ^ j) % 2 ^ 32)) (bitOr b ((l * 2 ^ j) % 2 ^ 32)) in
-    let e : w ≡ placed v j t = placed-by-shifts c b j f l t h ef el in
-    (subst (λ (n : ℕ). InForm n w) (sym (add-one j)) (subst (λ (x : Cells). InForm (suc j) x) (sym e) (in-form-more v j t form)),
-     ap₂ printed (add-one j) e ∙ printed-more v j t form ∙ ap₂ (λ (xs : List ℕ) (x : ℕ). xs ++ (x ∷ [])) p ch ∙ sym (take-more bs j 0 k))
+    let e : w ≡ placed v j t = placed-by-shifts c b j f l t h ef el in (
+      subst (λ (n : ℕ). InForm n w) (sym (add-one j)) (subst (λ (x : Cells). InForm (suc j) x) (sym e) (in-form-more v j t form)),
+      ap₂ printed (add-one j) e ∙ printed-more v j t form ∙ ap₂ (λ (xs : List ℕ) (x : ℕ). xs ++ (x ∷ [])) p ch ∙ sym (take-more bs j 0 k),
+    )
 
 pub characters-more : (bs : List ℕ) (j : ℕ) → j < length bs → true ≡ isCharacter (getD bs j 0) → allCharacters (drop j bs) ≡ allCharacters bs → allCharacters (drop (j + 1) bs) ≡ allCharacters bs
 characters-more bs j h ch e = ap (λ (x : Bool). x && allCharacters (drop (j + 1) bs)) ch ∙ sym (at-drop-more allCharacters bs j 0 h) ∙ e
 
--- another byte, a wrong count, and too many inputs
+-- byte j is no character
 pub no-row-by-byte : (k : ℕ) (bs : List ℕ) (j : ℕ) → j < length bs → false ≡ isCharacter (getD bs j 0) → allCharacters (drop j bs) ≡ allCharacters bs → false ≡ isRow k bs
 no-row-by-byte k bs j h ch e =
     let f : allCharacters bs ≡ false = sym e ∙ at-drop-more allCharacters bs j 0 h ∙ ap (λ (x : Bool). x && allCharacters (drop (j + 1) bs)) (sym ch) in
     sym (and-right (eqb (length bs) k) (leb k 32 && allCharacters bs) (and-right (leb k 32) (allCharacters bs) f))
 
-pub no-row-by-count : (k : ℕ) (bs : List ℕ) → (length bs ≡ k → ⊥) → false ≡ isRow k bs
-no-row-by-count k bs h = sym (and-left (eqb (length bs) k) (leb k 32 && allCharacters bs) (ne-eqb (length bs) k h))
-
-pub no-row-by-inputs : (k : ℕ) (bs : List ℕ) → 32 < k → false ≡ isRow k bs
-no-row-by-inputs k bs h = sym (and-right (eqb (length bs) k) (leb k 32 && allCharacters bs) (and-left (leb k 32) (allCharacters bs) (lt-leb k 32 h)))
-
 -- all bytes are read
 pub a-row : (k : ℕ) (bs : List ℕ) (j : ℕ) → length bs ≡ k → k ≤ 32 → length bs ≤ j → allCharacters (drop j bs) ≡ allCharacters bs → true ≡ isRow k bs
 a-row k bs j l h g e =
     sym (and-from (eqb (length bs) k) (leb k 32 && allCharacters bs) (eq-eqb (length bs) k l)
-      (and-from (leb k 32) (allCharacters bs) (le-leb k 32 h) (sym e ∙ at-drop-all allCharacters bs j g)))
+    (and-from (leb k 32) (allCharacters bs) (le-leb k 32 h) (sym e ∙ at-drop-all allCharacters bs j g)))

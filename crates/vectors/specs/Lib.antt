@@ -1,3 +1,4 @@
+-- The definitions that the contracts of test vectors cite.
 pub mod Allowed
 pub mod Vectors
 pub mod Views

@@ -11,5 +11,5 @@ returns-then-place-lt32 c = search (needs, bit-masked)
 
 pub returns-else-place-lt32 : need.returns-else-place-lt32
 returns-else-place-lt32 c = record {
-    is-the-bit = le-ltb (c .args .place) 32 (c .if-place-lt32 .left) ∙ sym (bit-past (c .args .number) 32 (c .args .place) (omega arith) (omega arith))
-  }
+  is-the-bit = le-ltb (c .args .place) 32 (c .if-place-lt32 .left) ∙ sym (bit-past (c .args .number) 32 (c .args .place) (omega arith) (omega arith));
+}

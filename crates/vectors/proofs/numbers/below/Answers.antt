@@ -8,8 +8,8 @@ use Rattle.vectors.proofs.numbers.below.Needs as need
 
 pub returns-then-place-ge32 : need.returns-then-place-ge32
 returns-then-place-ge32 c = record {
-    is-below-the-power = le-leb 32 (c .args .place) (omega arith) ∙ below-wide (c .args .number) 32 (c .args .place) (omega arith) (omega arith)
-  }
+  is-below-the-power = le-leb 32 (c .args .place) (omega arith) ∙ below-wide (c .args .number) 32 (c .args .place) (omega arith) (omega arith);
+}
 
 pub returns-else-place-ge32 : need.returns-else-place-ge32
 returns-else-place-ge32 c = search (needs, below-by-shift)

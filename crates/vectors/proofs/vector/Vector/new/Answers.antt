@@ -15,15 +15,15 @@ returns-then-value-care c =
     record {
       taken-exactly-if-in-form = e;
       in-form-means-bit-by-bit = judges (c .args .inputs) (c .args .care) (c .args .value) true e;
-      holds-both-numbers = search needs
+      holds-both-numbers = search needs;
     }
 
 pub returns-else-below : need.returns-else-below
 returns-else-below c =
     let e : false ≡ inForm (c .args .inputs) (c .args .care) (c .args .value) =
-      elim (c .else-below .came) [ else-below·by·then-below·else-value-care w ↦ grind (arith, tells) | else-below·by·else-below w ↦ grind (arith, tells) ] in
+    elim (c .else-below .came) [ else-below·by·then-below·else-value-care w ↦ grind (arith, tells) | else-below·by·else-below w ↦ grind (arith, tells) ] in
     record {
       taken-exactly-if-in-form = e;
       in-form-means-bit-by-bit = judges (c .args .inputs) (c .args .care) (c .args .value) false e;
-      holds-both-numbers = search needs
+      holds-both-numbers = search needs;
     }
