@@ -1,4 +1,5 @@
 // One cell of a vector: 0, 1, or X where the input is free.
+// Every input has a cell, also one that no card has, so that a cell can be asked for without a test.
 ghost use mathlib.Core.Path.{_≡_};
 ghost use Rattle.vectors.specs.Vectors.{bitAt, cellAt};
 ghost use Rattle.vectors.specs.Views.{cellsOf};

@@ -1,6 +1,7 @@
-// A vector entered into the nets of a walk: the cells of the card's inputs come first, and no other net changes.
+// A vector entered into the nets of a walk: the cells of the inputs come first, and no other net changes.
+// The nets of the inputs then allow exactly the settings that fill the vector, and there is always such a setting.
 ghost use mathlib.Core.Path.{_≡_};
-ghost use lib.ListN.{drop, length, take};
+ghost use lib.ListN.{drop, take};
 ghost use Rattle.card.specs.Views.{netlistOf};
 ghost use Rattle.vectors.specs.Vectors.{bitsFrom, FilledByTheAllowed, Fills, start};
 ghost use Rattle.vectors.specs.Views.{cellsOf};
