@@ -1,0 +1,6 @@
+-- The definitions that the contracts of test vectors cite.
+pub mod Allowed
+pub mod Vectors
+pub mod Views
+pub mod Rows
+pub mod Faults
