@@ -9,7 +9,8 @@ use lib.ListN.{length, getD, set, take}
 use Rattle.signal.specs.declared.ternary.Ternary.{Ternary}
 use Rattle.signal.specs.declared.ternary.Ternary.the-variants.{X}
 use Rattle.std.proofs.shelf.Lists.{take-more-set}
-use Rattle.vectors.specs.Allowed.{allows, AllowedBy}
+use Rattle.signal.specs.Ternaries.{has}
+use Rattle.vectors.specs.Allowed.{AllowedBy}
 use Rattle.vectors.specs.Vectors.{Cells, bitAt, bitsFrom, cellOf, cellAt, cellsFrom, start, Fills, FilledByTheAllowed}
 
 -- ---- the cells in order
@@ -38,12 +39,12 @@ same-cells v w j (suc n) h = ap₂ (λ x xs. x ∷ xs) (h j (omega arith) (omega
 
 -- ---- a setting and the cells
 
-allows-from : (x y b : Bool) → (x ≡ true → b ≡ y) → allows (cellOf x y) b ≡ true
-allows-from false y b h = refl
-allows-from true false b h = rw (h refl)
-allows-from true true b h = h refl
+has-from : (x y b : Bool) → (x ≡ true → b ≡ y) → has (cellOf x y) b ≡ true
+has-from false y b h = refl
+has-from true false b h = rw (h refl)
+has-from true true b h = h refl
 
-bit-from : (x y b : Bool) → allows (cellOf x y) b ≡ true → x ≡ true → b ≡ y
+bit-from : (x y b : Bool) → has (cellOf x y) b ≡ true → x ≡ true → b ≡ y
 bit-from false y b a h = cc
 bit-from true false true a h = sym a
 bit-from true false false a h = refl
@@ -58,7 +59,7 @@ allowed-from v j zero [] e f = tt
 allowed-from v j zero (b ∷ bs) e f = absurd (omega arith)
 allowed-from v j (suc n) [] e f = absurd (omega arith)
 allowed-from v j (suc n) (b ∷ bs) e f = (
-  allows-from (bitAt (v .care) j) (bitAt (v .value) j) b (f 0 j (omega arith) (omega arith)),
+  has-from (bitAt (v .care) j) (bitAt (v .value) j) b (f 0 j (omega arith) (omega arith)),
   allowed-from v (suc j) n bs (omega arith) (λ i p q h. f (suc i) p (omega arith) (omega arith)),
 )
 
@@ -73,7 +74,7 @@ agrees-from v j zero bits a i p q h c = absurd (omega arith)
 agrees-from v j (suc n) [] a i p q h c = absurd a
 agrees-from v j (suc n) (b ∷ bs) a zero p q h c =
     let s : j ≡ p = omega arith in
-    bit-from (bitAt (v .care) p) (bitAt (v .value) p) b (subst (λ (i : ℕ). allows (cellAt v i) b ≡ true) s (a .0)) c
+    bit-from (bitAt (v .care) p) (bitAt (v .value) p) b (subst (λ (i : ℕ). has (cellAt v i) b ≡ true) s (a .0)) c
 agrees-from v j (suc n) (b ∷ bs) a (suc i) p q h c = agrees-from v (suc j) n bs (a .1) i p (omega arith) (omega arith) c
 
 -- a setting fills a vector exactly if every cell allows its bit
