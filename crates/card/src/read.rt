@@ -113,6 +113,21 @@ fn card_of(heap: Global, draft: &Draft) -> Result<Card, AllocError>
     Ok(Card { inputs: draft.inputs, gates, outputs })
 }
 
+impl Card {
+    // The card that the bytes spell, by value.
+    pub fn from_bytes(heap: Global, bytes: &[u8]) -> Result<Card, CardFault>
+        ensures accepted_bytes_spell_the_card { λ r. ⌜ made r (λ card. Accepted (now (bytes .entry)) (netlistOf card)) ⌝ }
+        ensures a_refusal_names_the_first_broken_rule_and_its_place { λ r. ⌜ refused r (λ e. (e ≡ Memory → ⊥) → Refused (now (bytes .entry)) (refusalNumber e) (refusalOffset e)) ⌝ }
+        ensures want_of_memory_refuses_only_bytes_that_spell_a_card { λ r. ⌜ refused r (λ e. e ≡ Memory → (n : Netlist) × Accepted (now (bytes .entry)) n) ⌝ }
+        ensures is_what_the_definition_reads { λ r. ⌜ Cases r (λ card. reading (now (bytes .entry)) ≡ Ok (netlistOf card)) (λ e. (e ≡ Memory → ⊥) → reading (now (bytes .entry)) ≡ Err e) ⌝ }
+        ensures definition_and_rules_agree { λ _. ⌜ Agree ⌝ }
+    {
+        let draft = gather(bytes)?;
+        let spelled_card = card_of(heap, &draft)?;
+        Ok(spelled_card)
+    }
+}
+
 // The card that the bytes spell, written whole over a card that the caller lends.
 pub fn read(heap: Global, bytes: &[u8], card: &mut Card) -> Result<(), CardFault>
     ensures accepted_bytes_spell_the_card_held { λ r. ⌜ made r (λ _. Accepted (now (bytes .entry)) (netlistOf (now (card .exit)))) ⌝ }
@@ -122,8 +137,7 @@ pub fn read(heap: Global, bytes: &[u8], card: &mut Card) -> Result<(), CardFault
     ensures is_what_the_definition_reads { λ r. ⌜ Cases r (λ _. reading (now (bytes .entry)) ≡ Ok (netlistOf (now (card .exit)))) (λ e. (e ≡ Memory → ⊥) → reading (now (bytes .entry)) ≡ Err e) ⌝ }
     ensures definition_and_rules_agree { λ _. ⌜ Agree ⌝ }
 {
-    let draft = gather(bytes)?;
-    let spelled_card = card_of(heap, &draft)?;
+    let spelled_card = Card::from_bytes(heap, bytes)?;
     *card = spelled_card;
     Ok(())
 }
