@@ -1,4 +1,5 @@
 -- Lists of net numbers below a bound, and the outputs of a card, each of which is a net.
+-- Whoever reads an output after a walk needs `output-below` for the index and `output-read` for the value.
 use mathlib.Core.Path.{_≡_, refl, sym, _∙_, ap, ap₂}
 use mathlib.Core.List.{List, [], _∷_}
 use mathlib.Core.Bool.{Bool, true, _&&_}

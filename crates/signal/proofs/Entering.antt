@@ -1,4 +1,5 @@
 -- The inputs as the walk enters them: as they are, but for one that sticks.
+-- The definition goes over all inputs; the code writes at most one, and these lemmas say that it is the same.
 use mathlib.Core.Path.{_≡_, refl, sym, _∙_, ap, ap₂}
 use mathlib.Core.List.{List, [], _∷_}
 use mathlib.Core.Bool.{Bool, true, false, cond}

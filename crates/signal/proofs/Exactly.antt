@@ -1,4 +1,5 @@
 -- An exact kind is definite, and each of its gates allows exactly the bits that some choice of allowed bits makes.
+-- It holds of every exact kind, since a gate's answer takes each pin once.
 use mathlib.Core.Path.{_≡_, refl, sym, _∙_, ap, ap₂}
 use mathlib.Core.List.{List, [], _∷_}
 use mathlib.Core.Bool.{Bool, true, false, not, _&&_, _||_}

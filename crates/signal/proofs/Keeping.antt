@@ -1,4 +1,5 @@
--- A walk keeps every relation between values and bits that the operations keep: the one induction behind both promises of `walk`.
+-- A walk keeps every relation between values and bits that the operations keep.
+-- It is the one induction behind both promises of `walk`, at `allows` and at `Only allows`.
 use mathlib.Core.Path.{_≡_, subst, sym}
 use mathlib.Core.List.{List, [], _∷_, _++_}
 use mathlib.Core.Bool.{Bool, true, false, not, _&&_, _||_}

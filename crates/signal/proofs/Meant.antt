@@ -1,4 +1,5 @@
--- Each function means at bits what its name says.
+-- Each function means at bits what its name says, for any number of pins.
+-- The pins are joined from the left, so each lemma follows the fold.
 use mathlib.Core.Path.{_≡_, refl, sym, _∙_, ap}
 use mathlib.Core.Logic.{_↔_}
 use mathlib.Core.List.{List, [], _∷_}

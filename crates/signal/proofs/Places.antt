@@ -1,4 +1,5 @@
 -- Lists related place by place: their lengths, their elements, one more at the end.
+-- What a walk promises of all nets is read off at one net by `everywhere-at`.
 use mathlib.Core.Path.{_≡_, refl, ap, ap₂}
 use mathlib.Core.List.{List, [], _∷_, _++_}
 use Prim.Native.Nat.{ℕ, zero, suc, _<_}

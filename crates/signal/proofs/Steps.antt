@@ -1,4 +1,5 @@
 -- One gate more of a walk, over an array that holds the nets made so far and leaves the rest.
+-- The definition appends to a list; the code writes into an array at the next place.
 use mathlib.Core.Path.{_≡_, refl, sym, _∙_, ap, ap₂}
 use mathlib.Core.List.{List, [], _∷_, _++_}
 use mathlib.Core.Bool.{Bool, true, false, _&&_}

@@ -1,4 +1,5 @@
 -- The three values are exact: an answer allows exactly the bits that allowed bits, chosen independently, make.
+-- It is shown over any function of one or two bits, and used for each operation.
 use mathlib.Core.Path.{_≡_, refl, sym, _∙_, ap, subst}
 use mathlib.Core.Logic.{⊎-elim}
 use mathlib.Core.Bool.{Bool, true, false, not, _&&_, _||_, cond, false≢true}

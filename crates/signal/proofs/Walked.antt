@@ -1,4 +1,5 @@
--- The nets of a walk one by one: how many there are, that the inputs come first, and that each gate's net has its gate's value at all nets.
+-- The nets of a walk one by one: how many there are, that the inputs come first, and that each gate's net has its gate's value.
+-- The gate's value is taken at the whole list of nets, so that a reader need not know how far the walk had come.
 use mathlib.Core.Path.{_≡_, refl, sym, _∙_, ap, ap₂}
 use mathlib.Core.List.{List, [], _∷_, _++_, append-assoc}
 use mathlib.Core.Bool.{Bool, true}

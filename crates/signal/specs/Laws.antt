@@ -1,4 +1,5 @@
 -- The laws of a kind of signal, in one lane: `allows x b` says that the value x allows the bit b there.
+-- Each kind proves them once, and the walk's promises for that kind follow.
 use mathlib.Core.Path.{_≡_}
 use mathlib.Core.Bool.{Bool, not, _&&_, _||_}
 use Rattle.signal.specs.Operations.{Operations, differ}

@@ -1,4 +1,5 @@
 -- Values and bits side by side, and what a walk promises of them.
+-- One word, `Carries`, serves both promises: that the nets allow what allowed inputs make, and that definite inputs make definite nets.
 use mathlib.Core.List.{List, [], _∷_}
 use mathlib.Core.Bool.{Bool}
 use Rattle.std.specs.declared.option.Option.{Option}

@@ -1,4 +1,5 @@
 -- What each function means at bits, by how many of its pins are 1.
+-- This is what the definition of a gate's answer is held to, apart from how that definition joins the pins.
 use mathlib.Core.Path.{_≡_}
 use mathlib.Core.Logic.{_↔_}
 use mathlib.Core.List.{List, [], _∷_}

@@ -1,4 +1,5 @@
 -- The operations of a kind of signal, and those of the plain bit, which are the meaning of all others.
+-- Every gate's answer is made of these five, whatever the kind.
 use mathlib.Core.Bool.{Bool, true, false, not, _&&_, _||_}
 
 pub record Operations (S : Type 0) : Type 0 where

@@ -1,4 +1,5 @@
--- The three values by the bits that each allows, and their answers by the bits that allowed bits make: no table stands here.
+-- The three values by the bits that each allows, and their answers by the bits that allowed bits make.
+-- No table stands here: the code's tables are held to these definitions.
 use mathlib.Core.Path.{_≡_}
 use mathlib.Core.Logic.{_↔_}
 use mathlib.Core.List.{List}
