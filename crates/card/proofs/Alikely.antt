@@ -69,11 +69,11 @@ often (Two p q) None e n = absurd (false≢true e)
 often (Two p q) (One y) e n = absurd (false≢true e)
 often (Two p q) (Two x y) e n =
     ⊎-elim
-      (λ t. let u = and-parts (eqb p x) (eqb q y) t in
-            ap (λ z. times n (z ∷ q ∷ [])) (eqb-true p x (u .0)) ∙ ap (λ z. times n (x ∷ z ∷ [])) (eqb-true q y (u .1)))
-      (λ t. let u = and-parts (eqb p y) (eqb q x) t in
-            ap (λ z. times n (z ∷ q ∷ [])) (eqb-true p y (u .0)) ∙ ap (λ z. times n (y ∷ z ∷ [])) (eqb-true q x (u .1)) ∙ swapped-often y x n)
-      (or-cases (eqb p x && eqb q y) (eqb p y && eqb q x) e)
+    (λ t. let u = and-parts (eqb p x) (eqb q y) t in
+    ap (λ z. times n (z ∷ q ∷ [])) (eqb-true p x (u .0)) ∙ ap (λ z. times n (x ∷ z ∷ [])) (eqb-true q y (u .1)))
+    (λ t. let u = and-parts (eqb p y) (eqb q x) t in
+    ap (λ z. times n (z ∷ q ∷ [])) (eqb-true p y (u .0)) ∙ ap (λ z. times n (y ∷ z ∷ [])) (eqb-true q x (u .1)) ∙ swapped-often y x n)
+    (or-cases (eqb p x && eqb q y) (eqb p y && eqb q x) e)
 
 tested : (a b : Operands) → AsOften (netsRead a) (netsRead b) → sameOperands a b ≡ true
 tested None None o = refl
@@ -86,9 +86,9 @@ tested (Two p q) None o = absurd (never-none-two p q (λ n. sym (o n)))
 tested (Two p q) (One y) o = absurd (never-one-two y p q (λ n. sym (o n)))
 tested (Two p q) (Two x y) o =
     ⊎-elim
-      (λ e. or-left (eqb p x && eqb q y) _ (and-from (eqb p x) (eqb q y) (eq-eqb p x (e .0)) (eq-eqb q y (e .1))))
-      (λ e. or-right (eqb p x && eqb q y) _ (and-from (eqb p y) (eqb q x) (eq-eqb p y (e .0)) (eq-eqb q x (e .1))))
-      (often-two p q x y o)
+    (λ e. or-left (eqb p x && eqb q y) _ (and-from (eqb p x) (eqb q y) (eq-eqb p x (e .0)) (eq-eqb q y (e .1))))
+    (λ e. or-right (eqb p x && eqb q y) _ (and-from (eqb p y) (eqb q x) (eq-eqb p y (e .0)) (eq-eqb q x (e .1))))
+    (often-two p q x y o)
 
 gate-same : (g h : Gate) → sameGate g h ≡ true → SameGate g h
 gate-same g h e =
@@ -125,22 +125,27 @@ same-gates (g ∷ gs) (h ∷ hs) r =
 
 -- the three tests together
 pub alike-decides : (a b : Netlist) (i g o : Bool) → i ≡ eqb (a .inputs) (b .inputs) → g ≡ sameGates (a .gates) (b .gates) → Decides o (a .outputs ≡ b .outputs) → Decides ((i && g) && o) (Alike a b)
-alike-decides a b i g o is gs os =
-    ((λ e.
+alike-decides a b i g o is gs os = (
+  (λ e.
       let p = and-parts (i && g) o e in
       let q = and-parts i g (p .0) in
       let r = gates-same (a .gates) (b .gates) (sym gs ∙ q .1) in
       record { inputs = eqb-true _ _ (sym is ∙ q .0); gates = r .long; each = r .each; outputs = os .0 (p .1) }),
-     (λ l. and-from (i && g) o (and-from i g (is ∙ eq-eqb _ _ (l .inputs)) (gs ∙ same-gates (a .gates) (b .gates) (record { long = l .gates; each = l .each }))) (os .1 (l .outputs))))
+  (λ l. and-from (i && g) o (and-from i g (is ∙ eq-eqb _ _ (l .inputs)) (gs ∙ same-gates (a .gates) (b .gates) (record { long = l .gates; each = l .each }))) (os .1 (l .outputs))),
+)
 
 pub alike-laws : AlikeLaws
 alike-laws = record {
   reflexive = λ a. record { inputs = refl; gates = refl; each = λ i d h. record { function = refl; operands = λ n. refl }; outputs = refl };
   symmetric = λ a b l.
-    let e = l .gates in
-    record { inputs = sym (l .inputs); gates = sym (l .gates); each = λ i d h. let s = l .each i d (omega arith) in record { function = sym (s .function); operands = λ n. sym (s .operands n) }; outputs = sym (l .outputs) };
+      let e = l .gates in
+      record { inputs = sym (l .inputs); gates = sym (l .gates); each = λ i d h. let s = l .each i d (omega arith) in record { function = sym (s .function); operands = λ n. sym (s .operands n) }; outputs = sym (l .outputs) };
   transitive = λ a b c l m.
-    let e = l .gates in
-    record { inputs = l .inputs ∙ m .inputs; gates = l .gates ∙ m .gates;
-      each = λ i d h. let s = l .each i d h in let t = m .each i d (omega arith) in record { function = s .function ∙ t .function; operands = λ n. s .operands n ∙ t .operands n };
-      outputs = l .outputs ∙ m .outputs } }
+      let e = l .gates in
+      record {
+        inputs = l .inputs ∙ m .inputs;
+        gates = l .gates ∙ m .gates;
+        each = λ i d h. let s = l .each i d h in let t = m .each i d (omega arith) in record { function = s .function ∙ t .function; operands = λ n. s .operands n ∙ t .operands n };
+        outputs = l .outputs ∙ m .outputs;
+      };
+}

@@ -50,17 +50,17 @@ module _ (c : Netlist) where
       spelled-append (replicate (c .inputs) AddInput) (map AddGate (c .gates) ++ map AddOutput (c .outputs))
       ∙ ap (λ z. z ++ allSpelled (map AddGate (c .gates) ++ map AddOutput (c .outputs))) (spelled-inputs (c .inputs))
       ∙ ap (λ z. inputs-part ++ z)
-          (spelled-append (map AddGate (c .gates)) (map AddOutput (c .outputs))
-           ∙ ap (λ z. z ++ allSpelled (map AddOutput (c .outputs))) (spelled-map AddGate (c .gates))
-           ∙ ap (λ z. gates-part ++ z) (spelled-map AddOutput (c .outputs)))
+      (spelled-append (map AddGate (c .gates)) (map AddOutput (c .outputs))
+      ∙ ap (λ z. z ++ allSpelled (map AddOutput (c .outputs))) (spelled-map AddGate (c .gates))
+      ∙ ap (λ z. gates-part ++ z) (spelled-map AddOutput (c .outputs)))
 
   -- the bytes after each part
   pub written-in-parts : (b0 b1 b2 b3 b4 : List ℕ) (k : ℕ) (gs : List Gate) (os : List ℕ) → b0 ≡ [] → b1 ≡ b0 ++ replicate k 0x20 → b2 ≡ b1 ++ gatesWritten gs → b3 ≡ b2 ++ outputsWritten os → b4 ≡ b3 ++ (0x7f ∷ []) → k ≡ c .inputs → gs ≡ c .gates → os ≡ c .outputs → b4 ≡ written c
   written-in-parts b0 b1 b2 b3 b4 k gs os p0 p1 p2 p3 p4 q0 q1 q2 =
       p4 ∙ ap (λ z. z ++ (0x7f ∷ []))
-        (p3 ∙ ap (λ z. z ++ outputsWritten os) (p2 ∙ ap (λ z. z ++ gatesWritten gs) (p1 ∙ ap (λ z. z ++ replicate k 0x20) p0))
-         ∙ ap (λ z. (replicate z 0x20 ++ gatesWritten gs) ++ outputsWritten os) q0
-         ∙ ap (λ z. (inputs-part ++ gatesWritten z) ++ outputsWritten os) q1
-         ∙ ap (λ z. (inputs-part ++ gates-part) ++ outputsWritten z) q2
-         ∙ append-assoc inputs-part gates-part outputs-part
-         ∙ sym all-parts)
+      (p3 ∙ ap (λ z. z ++ outputsWritten os) (p2 ∙ ap (λ z. z ++ gatesWritten gs) (p1 ∙ ap (λ z. z ++ replicate k 0x20) p0))
+      ∙ ap (λ z. (replicate z 0x20 ++ gatesWritten gs) ++ outputsWritten os) q0
+      ∙ ap (λ z. (inputs-part ++ gatesWritten z) ++ outputsWritten os) q1
+      ∙ ap (λ z. (inputs-part ++ gates-part) ++ outputsWritten z) q2
+      ∙ append-assoc inputs-part gates-part outputs-part
+      ∙ sym all-parts)

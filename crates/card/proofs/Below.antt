@@ -46,13 +46,13 @@ not-stands n (x ∷ xs) a =
 pub each-push : {X : Type 0} (P : ℕ → X → Type 0) (xs : List X) (y : X) → ((i : ℕ) (d : X) → i < length xs → P i (getD xs i d)) → P (length xs) y → (i : ℕ) (d : X) → i < length (xs ++ (y ∷ [])) → P i (getD (xs ++ (y ∷ [])) i d)
 each-push P xs y a p i d h =
     below-more (λ j. P j (getD (xs ++ (y ∷ [])) j d)) (length xs)
-      (λ j l. subst (P j) (sym (getD-append-left xs (y ∷ []) d j l)) (a j d l))
-      (subst (P (length xs)) (sym (getD-push xs y d (length xs) refl)) p)
-      i (simp length-append at h)
+    (λ j l. subst (P j) (sym (getD-append-left xs (y ∷ []) d j l)) (a j d l))
+    (subst (P (length xs)) (sym (getD-push xs y d (length xs) refl)) p)
+    i (simp length-append at h)
 
 pub distinct-push : (xs : List ℕ) (y : ℕ) → Distinct xs → stands y xs ≡ false → Distinct (xs ++ (y ∷ []))
 distinct-push xs y o m i j h l =
     below-more (λ t. i < t → getD (xs ++ (y ∷ [])) i 0 ≡ getD (xs ++ (y ∷ [])) t 0 → ⊥) (length xs)
-      (λ t u it q. o i t it u (sym (getD-append-left xs (y ∷ []) 0 i (omega arith)) ∙ q ∙ getD-append-left xs (y ∷ []) 0 t u))
-      (λ it q. stands-not y xs m i it (sym (getD-append-left xs (y ∷ []) 0 i it) ∙ q ∙ getD-push xs y 0 (length xs) refl))
-      j (simp length-append at l) h
+    (λ t u it q. o i t it u (sym (getD-append-left xs (y ∷ []) 0 i (omega arith)) ∙ q ∙ getD-append-left xs (y ∷ []) 0 t u))
+    (λ it q. stands-not y xs m i it (sym (getD-append-left xs (y ∷ []) 0 i it) ∙ q ∙ getD-push xs y 0 (length xs) refl))
+    j (simp length-append at l) h

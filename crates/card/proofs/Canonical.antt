@@ -44,13 +44,18 @@ declared-append (c ∷ cs) bs d = declared-append cs bs (adds d c)
 -- the inputs
 keep-inputs : (j : ℕ) (d : Netlist) → length (d .gates) ≡ 0 → d .inputs + j ≤ 32 → AllKeepRules d (replicate j AddInput)
 keep-inputs zero d g h = tt
-keep-inputs (suc j) d g h =
-    (never-end-input, tt,
-     kept-rules d AddInput (record {
-       not-late = not-from-true (eqb (length (d .gates)) 0) (eq-eqb (length (d .gates)) 0 g);
-       not-overfull = lt-leb 32 (d .inputs) (omega arith);
-       all-declared = refl; not-repeated = refl; not-incomplete = refl }),
-     keep-inputs j (adds d AddInput) g (omega arith))
+keep-inputs (suc j) d g h = (
+  never-end-input,
+  tt,
+  kept-rules d AddInput (record {
+    not-late = not-from-true (eqb (length (d .gates)) 0) (eq-eqb (length (d .gates)) 0 g);
+    not-overfull = lt-leb 32 (d .inputs) (omega arith);
+    all-declared = refl;
+    not-repeated = refl;
+    not-incomplete = refl;
+  }),
+  keep-inputs j (adds d AddInput) g (omega arith),
+)
 
 declared-inputs : (j : ℕ) (d : Netlist) → declaredBy d (replicate j AddInput) ≡ record { inputs = d .inputs + j; gates = d .gates; outputs = d .outputs }
 declared-inputs zero d = let z : d .inputs ≡ d .inputs + 0 = omega arith in ap (λ i. record { inputs = i; gates = d .gates; outputs = d .outputs }) z
@@ -69,19 +74,24 @@ keep-gates [] d f = tt
 keep-gates (g ∷ gs) d f =
     let len = length-append (d .gates) (g ∷ []) in
     let fit = f .fits in
-    let z : nets d + 0 ≡ nets d = omega arith in
-    (never-end-gate g, f .pins 0 g (omega arith),
-     kept-rules d (AddGate g) (record {
-       not-late = refl;
-       not-overfull = lt-leb 256 (nets d) (omega arith);
-       all-declared = not-from-true (allBelow (nets d) (pinsOf g)) (ap (λ x. allBelow x (pinsOf g)) (sym z) ∙ f .reads 0 g (omega arith));
-       not-repeated = refl; not-incomplete = refl }),
-     keep-gates gs (adds d (AddGate g)) (record {
-       fits = omega arith;
-       pins = λ i e h. f .pins (suc i) e (omega arith);
-       reads = λ i e h.
-         let y : nets (adds d (AddGate g)) + i ≡ nets d + suc i = omega arith in
-         ap (λ x. allBelow x (pinsOf (getD gs i e))) y ∙ f .reads (suc i) e (omega arith) }))
+    let z : nets d + 0 ≡ nets d = omega arith in (
+      never-end-gate g,
+      f .pins 0 g (omega arith),
+      kept-rules d (AddGate g) (record {
+        not-late = refl;
+        not-overfull = lt-leb 256 (nets d) (omega arith);
+        all-declared = not-from-true (allBelow (nets d) (pinsOf g)) (ap (λ x. allBelow x (pinsOf g)) (sym z) ∙ f .reads 0 g (omega arith));
+        not-repeated = refl;
+        not-incomplete = refl;
+      }),
+      keep-gates gs (adds d (AddGate g)) (record {
+        fits = omega arith;
+        pins = λ i e h. f .pins (suc i) e (omega arith);
+        reads = λ i e h.
+            let y : nets (adds d (AddGate g)) + i ≡ nets d + suc i = omega arith in
+            ap (λ x. allBelow x (pinsOf (getD gs i e))) y ∙ f .reads (suc i) e (omega arith);
+      }),
+    )
 
 declared-gates : (gs : List Gate) (d : Netlist) → declaredBy d (map AddGate gs) ≡ record { inputs = d .inputs; gates = d .gates ++ gs; outputs = d .outputs }
 declared-gates [] d = ap (λ x. record { inputs = d .inputs; gates = x; outputs = d .outputs }) (sym (append-nil (d .gates)))
@@ -99,20 +109,24 @@ keep-outputs (o ∷ os) d f =
     let len = length-append (d .outputs) (o ∷ []) in
     let all = length-append (d .outputs) (o ∷ os) in
     let fit = f .fits in
-    let p = and-parts (ltb o (nets d)) (allBelow (nets d) os) (f .declared) in
-    (never-end-output o, tt,
-     kept-rules d (AddOutput o) (record {
-       not-late = refl;
-       not-overfull = lt-leb 32 (length (d .outputs)) (omega arith);
-       all-declared = not-from-true (allBelow (nets d) (o ∷ [])) (and-from (ltb o (nets d)) true (p .0) refl);
-       not-repeated = not-stands o (d .outputs) (λ i h e.
-         f .distinct i (length (d .outputs)) h (omega arith)
-           (getD-append-left (d .outputs) (o ∷ os) 0 i h ∙ e ∙ sym (getD-at (d .outputs) o os 0 (length (d .outputs)) refl)));
-       not-incomplete = refl }),
-     keep-outputs os (adds d (AddOutput o)) (record {
-       fits = omega arith;
-       declared = p .1;
-       distinct = subst Distinct (sym (append-assoc (d .outputs) (o ∷ []) os)) (f .distinct) }))
+    let p = and-parts (ltb o (nets d)) (allBelow (nets d) os) (f .declared) in (
+      never-end-output o,
+      tt,
+      kept-rules d (AddOutput o) (record {
+        not-late = refl;
+        not-overfull = lt-leb 32 (length (d .outputs)) (omega arith);
+        all-declared = not-from-true (allBelow (nets d) (o ∷ [])) (and-from (ltb o (nets d)) true (p .0) refl);
+        not-repeated = not-stands o (d .outputs) (λ i h e.
+            f .distinct i (length (d .outputs)) h (omega arith)
+            (getD-append-left (d .outputs) (o ∷ os) 0 i h ∙ e ∙ sym (getD-at (d .outputs) o os 0 (length (d .outputs)) refl)));
+        not-incomplete = refl;
+      }),
+      keep-outputs os (adds d (AddOutput o)) (record {
+        fits = omega arith;
+        declared = p .1;
+        distinct = subst Distinct (sym (append-assoc (d .outputs) (o ∷ []) os)) (f .distinct);
+      }),
+    )
 
 declared-outputs : (os : List ℕ) (d : Netlist) → declaredBy d (map AddOutput os) ≡ record { inputs = d .inputs; gates = d .gates; outputs = d .outputs ++ os }
 declared-outputs [] d = ap (λ x. record { inputs = d .inputs; gates = d .gates; outputs = x }) (sym (append-nil (d .outputs)))
@@ -133,15 +147,16 @@ module _ (c : Netlist) (law : Lawful c) where
       let few = law .inputs-fit in
       let fit = law .nets-fit in
       keep-append (replicate (c .inputs) AddInput) (map AddGate (c .gates) ++ map AddOutput (c .outputs)) nothing
-        (keep-inputs (c .inputs) nothing refl (omega arith))
-        (subst (λ d. AllKeepRules d (map AddGate (c .gates) ++ map AddOutput (c .outputs))) (sym inputs-declare)
-          (keep-append (map AddGate (c .gates)) (map AddOutput (c .outputs)) after-inputs
-            (keep-gates (c .gates) after-inputs (record {
-              fits = omega arith;
-              pins = law .pins-match;
-              reads = λ i e h. let z : (c .inputs + 0) + i ≡ c .inputs + i = omega arith in ap (λ x. allBelow x (pinsOf (getD (c .gates) i e))) z ∙ law .ordered i e h }))
-            (subst (λ d. AllKeepRules d (map AddOutput (c .outputs))) (sym (declared-gates (c .gates) after-inputs))
-              (keep-outputs (c .outputs) after-gates (record { fits = let f = law .outputs-fit in omega arith; declared = law .outputs-declared; distinct = law .outputs-distinct })))))
+      (keep-inputs (c .inputs) nothing refl (omega arith))
+      (subst (λ d. AllKeepRules d (map AddGate (c .gates) ++ map AddOutput (c .outputs))) (sym inputs-declare)
+      (keep-append (map AddGate (c .gates)) (map AddOutput (c .outputs)) after-inputs
+      (keep-gates (c .gates) after-inputs (record {
+        fits = omega arith;
+        pins = law .pins-match;
+        reads = λ i e h. let z : (c .inputs + 0) + i ≡ c .inputs + i = omega arith in ap (λ x. allBelow x (pinsOf (getD (c .gates) i e))) z ∙ law .ordered i e h;
+      }))
+      (subst (λ d. AllKeepRules d (map AddOutput (c .outputs))) (sym (declared-gates (c .gates) after-inputs))
+      (keep-outputs (c .outputs) after-gates (record { fits = let f = law .outputs-fit in omega arith; declared = law .outputs-declared; distinct = law .outputs-distinct })))))
 
   declare-all : declaredBy nothing (commandsOf c) ≡ c
   declare-all =
@@ -159,8 +174,13 @@ module _ (c : Netlist) (law : Lawful c) where
         at = length (allSpelled (commandsOf c));
         begins = record { commands = commandsOf c; keep = keep-all; declare = sym declare-all; spell = refl; offset = refl };
         complete = kept-rules c End (record {
-          not-late = refl; not-overfull = refl; all-declared = refl; not-repeated = refl;
-          not-incomplete = or-from (eqb (c .inputs) 0) (eqb (length (c .outputs)) 0) (ne-eqb (c .inputs) 0 (λ e. omega arith)) (ne-eqb (length (c .outputs)) 0 (λ e. omega arith)) }) }
+          not-late = refl;
+          not-overfull = refl;
+          all-declared = refl;
+          not-repeated = refl;
+          not-incomplete = or-from (eqb (c .inputs) 0) (eqb (length (c .outputs)) 0) (ne-eqb (c .inputs) 0 (λ e. omega arith)) (ne-eqb (length (c .outputs)) 0 (λ e. omega arith));
+        });
+      }
 
   pub written-reads : reading (written c) ≡ Ok c
   written-reads = agree .accepted (written c) c written-accepted

@@ -68,7 +68,7 @@ few-pins High = omega arith
 
 -- the operands that decoding finds are spelled behind the first byte
 pub operands-spelled : (n b : ℕ) (more : List ℕ) → n ≤ 2 → Bytes (b ∷ more) → bytesFor n ≤ length (b ∷ more)
-  → (length (netsRead (operandsIn (b ∷ more) n)) ≡ n) × ((tail : List ℕ) × (more ≡ netsBytes (netsRead (operandsIn (b ∷ more) n)) ++ tail))
+    → (length (netsRead (operandsIn (b ∷ more) n)) ≡ n) × ((tail : List ℕ) × (more ≡ netsBytes (netsRead (operandsIn (b ∷ more) n)) ++ tail))
 operands-spelled zero b more h y l = (refl, (more, refl))
 operands-spelled (suc zero) b [] h y l = absurd (omega arith)
 operands-spelled (suc zero) b (p ∷ []) h y l = absurd (omega arith)
@@ -161,19 +161,19 @@ module _ (b : ℕ) (more : List ℕ) (at : ℕ) (bytes : Bytes (b ∷ more)) whe
       let all : bytesFor n ≡ 1 + 2 * n = bytes-for n (few-pins f) in
       let byte : 0x30 + functionNumber f ≡ b = omega (arith, num) in
       cond-both (leb (bytesFor n) (length (b ∷ more))) (Ok (operandsIn (b ∷ more) n)) (Err (Cut at)) (λ r. Decoding (b ∷ more) at (gateOf f r))
-        (λ e. let o = operands-spelled n b more (few-pins f) bytes (leb-true (bytesFor n) (length (b ∷ more)) e) in
-              let g : Gate = record { function = f; operands = operandsIn (b ∷ more) n } in
-              whole (AddGate g) (o .1 .0) (o .0) (ap (λ (x : ℕ). x ∷ more) (sym byte) ∙ ap (λ (x : List ℕ). (0x30 + functionNumber f) ∷ x) (o .1 .1)))
-        (λ e. let l = leb-false (bytesFor n) (length (b ∷ more)) e in cut-short b more refl opn (omega (arith, l, all, after)))
+      (λ e. let o = operands-spelled n b more (few-pins f) bytes (leb-true (bytesFor n) (length (b ∷ more)) e) in
+      let g : Gate = record { function = f; operands = operandsIn (b ∷ more) n } in
+      whole (AddGate g) (o .1 .0) (o .0) (ap (λ (x : ℕ). x ∷ more) (sym byte) ∙ ap (λ (x : List ℕ). (0x30 + functionNumber f) ∷ x) (o .1 .1)))
+      (λ e. let l = leb-false (bytesFor n) (length (b ∷ more)) e in cut-short b more refl opn (omega (arith, l, all, after)))
 
   output-decoding : b ≡ 0x40 → Decoding (b ∷ more) at (outputOf (netAt (b ∷ more) 1 at))
   output-decoding t =
       cond-both (ltb 2 (length (b ∷ more))) (Ok (word (b ∷ more) 1)) (Err (Cut at)) (λ r. Decoding (b ∷ more) at (outputOf r))
-        (λ e. spell more bytes (ltb-true 2 (length (b ∷ more)) e))
-        (λ e. let l = ltb-false 2 (length (b ∷ more)) e in
-              let opn : opens b ≡ true = ap opens t in
-              let after : operandsAfter b ≡ 1 = ap operandsAfter t in
-              cut-short b more refl opn (omega (arith, l, after)))
+      (λ e. spell more bytes (ltb-true 2 (length (b ∷ more)) e))
+      (λ e. let l = ltb-false 2 (length (b ∷ more)) e in
+      let opn : opens b ≡ true = ap opens t in
+      let after : operandsAfter b ≡ 1 = ap operandsAfter t in
+      cut-short b more refl opn (omega (arith, l, after)))
     where
       spell : (ms : List ℕ) → Bytes (b ∷ ms) → 2 < length (b ∷ ms) → Decoding (b ∷ ms) at (Ok (AddOutput (word (b ∷ ms) 1)))
       spell [] y l = absurd (omega arith)
@@ -185,14 +185,14 @@ decoding [] at y = none-left refl
 decoding (b ∷ more) at y =
     subst (Decoding (b ∷ more) at) (sym (first-byte b more at))
     (cond-both (eqb b 0x20) _ _ (Decoding (b ∷ more) at)
-      (λ e. whole AddInput more tt (ap (λ (x : ℕ). x ∷ more) (eqb-true b 0x20 e)))
-      (λ e. cond-both (leb 0x30 b && leb b 0x39) _ _ (Decoding (b ∷ more) at)
-        (λ f. gate-decoding b more at y f)
-        (λ f. cond-both (eqb b 0x40) _ _ (Decoding (b ∷ more) at)
-          (λ g. output-decoding b more at y (eqb-true b 0x40 g))
-          (λ g. cond-both (eqb b 0x7f) _ _ (Decoding (b ∷ more) at)
-            (λ h. whole End more tt (ap (λ (x : ℕ). x ∷ more) (eqb-true b 0x7f h)))
-            (λ h. no-command b more refl (or-from (eqb b 0x20) _ e (or-from (leb 0x30 b && leb b 0x39) _ f (or-from (eqb b 0x40) _ g h))))))))
+    (λ e. whole AddInput more tt (ap (λ (x : ℕ). x ∷ more) (eqb-true b 0x20 e)))
+    (λ e. cond-both (leb 0x30 b && leb b 0x39) _ _ (Decoding (b ∷ more) at)
+    (λ f. gate-decoding b more at y f)
+    (λ f. cond-both (eqb b 0x40) _ _ (Decoding (b ∷ more) at)
+    (λ g. output-decoding b more at y (eqb-true b 0x40 g))
+    (λ g. cond-both (eqb b 0x7f) _ _ (Decoding (b ∷ more) at)
+    (λ h. whole End more tt (ap (λ (x : ℕ). x ∷ more) (eqb-true b 0x7f h)))
+    (λ h. no-command b more refl (or-from (eqb b 0x20) _ e (or-from (leb 0x30 b && leb b 0x39) _ f (or-from (eqb b 0x40) _ g h))))))))
 
 -- a byte that begins no command is refused
 pub unknown-decoded : (b : ℕ) (more : List ℕ) (at : ℕ) → opens b ≡ false → commandAt (b ∷ more) at ≡ Err (Unknown at)
@@ -207,13 +207,13 @@ pub cut-decoded : (b : ℕ) (more : List ℕ) (at : ℕ) → opens b ≡ true �
 cut-decoded b more at o l =
     first-byte b more at ∙
     cond-both (eqb b 0x20) _ _ (λ r. r ≡ Err (Operand (Cut at)))
-      (λ e. let z : operandsAfter b ≡ 0 = ap operandsAfter (eqb-true b 0x20 e) in absurd (omega (arith, l, z)))
-      (λ e. cond-both (leb 0x30 b && leb b 0x39) _ _ (λ r. r ≡ Err (Operand (Cut at)))
-        (λ f. let n = pinCount (functionOf (b - 0x30)) in
-              let after : operandsAfter b ≡ n = cond-true (leb 0x30 b && leb b 0x39) n _ f in
-              let all : bytesFor n ≡ 1 + 2 * n = bytes-for n (few-pins (functionOf (b - 0x30))) in
-              ap (gateOf (functionOf (b - 0x30))) (cond-false (leb (bytesFor n) (length (b ∷ more))) _ _ (lt-leb (bytesFor n) (length (b ∷ more)) (omega (arith, l, after, all)))))
-        (λ f. cond-both (eqb b 0x40) _ _ (λ r. r ≡ Err (Operand (Cut at)))
-          (λ g. let after : operandsAfter b ≡ 1 = ap operandsAfter (eqb-true b 0x40 g) in
-                ap outputOf (cond-false (ltb 2 (length (b ∷ more))) _ _ (le-ltb 2 (length (b ∷ more)) (omega (arith, l, after)))))
-          (λ g. let z : operandsAfter b ≡ 0 = cond-false (leb 0x30 b && leb b 0x39) _ _ f ∙ cond-false (eqb b 0x40) _ _ g in absurd (omega (arith, l, z)))))
+    (λ e. let z : operandsAfter b ≡ 0 = ap operandsAfter (eqb-true b 0x20 e) in absurd (omega (arith, l, z)))
+    (λ e. cond-both (leb 0x30 b && leb b 0x39) _ _ (λ r. r ≡ Err (Operand (Cut at)))
+    (λ f. let n = pinCount (functionOf (b - 0x30)) in
+    let after : operandsAfter b ≡ n = cond-true (leb 0x30 b && leb b 0x39) n _ f in
+    let all : bytesFor n ≡ 1 + 2 * n = bytes-for n (few-pins (functionOf (b - 0x30))) in
+    ap (gateOf (functionOf (b - 0x30))) (cond-false (leb (bytesFor n) (length (b ∷ more))) _ _ (lt-leb (bytesFor n) (length (b ∷ more)) (omega (arith, l, after, all)))))
+    (λ f. cond-both (eqb b 0x40) _ _ (λ r. r ≡ Err (Operand (Cut at)))
+    (λ g. let after : operandsAfter b ≡ 1 = ap operandsAfter (eqb-true b 0x40 g) in
+    ap outputOf (cond-false (ltb 2 (length (b ∷ more))) _ _ (le-ltb 2 (length (b ∷ more)) (omega (arith, l, after)))))
+    (λ g. let z : operandsAfter b ≡ 0 = cond-false (leb 0x30 b && leb b 0x39) _ _ f ∙ cond-false (eqb b 0x40) _ _ g in absurd (omega (arith, l, z)))))

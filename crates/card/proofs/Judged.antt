@@ -72,13 +72,13 @@ module _ (d : Netlist) (c : Command) (at : ℕ) where
   broken-faults r b =
       let n = b .none-before in
       cond-both (eqb r 3) _ _ (λ x. x ≡ true → Faults r)
-        (λ e t. let z = eqb-true r 3 e in record { fault = LateInput at; is = cond-true (late d c) _ _ t; number = sym z; offset = refl }) (λ _.
+      (λ e t. let z = eqb-true r 3 e in record { fault = LateInput at; is = cond-true (late d c) _ _ t; number = sym z; offset = refl }) (λ _.
       cond-both (eqb r 4) _ _ (λ x. x ≡ true → Faults r)
-        (λ e t. let z = eqb-true r 4 e in record { fault = Limit at; is = cond-false (late d c) _ _ (n 3 (omega (arith, z))) ∙ cond-true (overfull d c) _ _ t; number = sym z; offset = refl }) (λ _.
+      (λ e t. let z = eqb-true r 4 e in record { fault = Limit at; is = cond-false (late d c) _ _ (n 3 (omega (arith, z))) ∙ cond-true (overfull d c) _ _ t; number = sym z; offset = refl }) (λ _.
       cond-both (eqb r 5) _ _ (λ x. x ≡ true → Faults r)
-        (λ e t. let z = eqb-true r 5 e in record { fault = Operand (Undeclared at); is = cond-false (late d c) _ _ (n 3 (omega (arith, z))) ∙ cond-false (overfull d c) _ _ (n 4 (omega (arith, z))) ∙ cond-true (undeclared d c) _ _ t; number = sym z; offset = refl }) (λ _.
+      (λ e t. let z = eqb-true r 5 e in record { fault = Operand (Undeclared at); is = cond-false (late d c) _ _ (n 3 (omega (arith, z))) ∙ cond-false (overfull d c) _ _ (n 4 (omega (arith, z))) ∙ cond-true (undeclared d c) _ _ t; number = sym z; offset = refl }) (λ _.
       cond-both (eqb r 6) _ _ (λ x. x ≡ true → Faults r)
-        (λ e t. let z = eqb-true r 6 e in record { fault = NamedTwice at; is = cond-false (late d c) _ _ (n 3 (omega (arith, z))) ∙ cond-false (overfull d c) _ _ (n 4 (omega (arith, z))) ∙ cond-false (undeclared d c) _ _ (n 5 (omega (arith, z))) ∙ cond-true (repeated d c) _ _ t; number = sym z; offset = refl }) (λ _.
+      (λ e t. let z = eqb-true r 6 e in record { fault = NamedTwice at; is = cond-false (late d c) _ _ (n 3 (omega (arith, z))) ∙ cond-false (overfull d c) _ _ (n 4 (omega (arith, z))) ∙ cond-false (undeclared d c) _ _ (n 5 (omega (arith, z))) ∙ cond-true (repeated d c) _ _ t; number = sym z; offset = refl }) (λ _.
       cond-both (eqb r 7) _ _ (λ x. x ≡ true → Faults r)
-        (λ e t. let z = eqb-true r 7 e in record { fault = Incomplete at; is = cond-false (late d c) _ _ (n 3 (omega (arith, z))) ∙ cond-false (overfull d c) _ _ (n 4 (omega (arith, z))) ∙ cond-false (undeclared d c) _ _ (n 5 (omega (arith, z))) ∙ cond-false (repeated d c) _ _ (n 6 (omega (arith, z))) ∙ cond-true (incomplete d c) _ _ t; number = sym z; offset = refl }) (λ _.
+      (λ e t. let z = eqb-true r 7 e in record { fault = Incomplete at; is = cond-false (late d c) _ _ (n 3 (omega (arith, z))) ∙ cond-false (overfull d c) _ _ (n 4 (omega (arith, z))) ∙ cond-false (undeclared d c) _ _ (n 5 (omega (arith, z))) ∙ cond-false (repeated d c) _ _ (n 6 (omega (arith, z))) ∙ cond-true (incomplete d c) _ _ t; number = sym z; offset = refl }) (λ _.
       λ t. absurd (true≢false (sym t))))))) (b .broken)

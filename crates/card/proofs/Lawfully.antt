@@ -42,7 +42,8 @@ one-more d AddInput s w k =
       pins-match = s .pins-match;
       ordered = λ i g h. absurd (omega arith);
       outputs-declared = below-more-bound (nets d) (d .inputs + 1 + length (d .gates)) (d .outputs) (omega arith) (s .outputs-declared);
-      outputs-distinct = s .outputs-distinct }
+      outputs-distinct = s .outputs-distinct;
+    }
 one-more d (AddGate g) s w k =
     let few = leb-false 256 (nets d) (k 4) in
     let len = length-append (d .gates) (g ∷ []) in
@@ -53,7 +54,8 @@ one-more d (AddGate g) s w k =
       pins-match = each-push (λ i x. length (pinsOf x) ≡ pinCount (x .function)) (d .gates) g (s .pins-match) w;
       ordered = each-push (λ i x. allBelow (d .inputs + i) (pinsOf x) ≡ true) (d .gates) g (s .ordered) (not-false _ (k 5));
       outputs-declared = below-more-bound (nets d) (d .inputs + length (d .gates ++ (g ∷ []))) (d .outputs) (omega arith) (s .outputs-declared);
-      outputs-distinct = s .outputs-distinct }
+      outputs-distinct = s .outputs-distinct;
+    }
 one-more d (AddOutput n) s w k =
     let few = leb-false 32 (length (d .outputs)) (k 4) in
     let len = length-append (d .outputs) (n ∷ []) in
@@ -65,7 +67,8 @@ one-more d (AddOutput n) s w k =
       pins-match = s .pins-match;
       ordered = s .ordered;
       outputs-declared = below-push (nets d) (d .outputs) n (s .outputs-declared) low;
-      outputs-distinct = distinct-push (d .outputs) n (s .outputs-distinct) (k 6) }
+      outputs-distinct = distinct-push (d .outputs) n (s .outputs-distinct) (k 6);
+    }
 one-more d End s w k = s
 
 all-more : (cs : List Command) (d : Netlist) → SoFar d → AllKeepRules d cs → SoFar (declaredBy d cs)
@@ -74,11 +77,14 @@ all-more (c ∷ cs) d s k = all-more cs (adds d c) (one-more d c s (k .1) (k .2)
 
 start : SoFar nothing
 start = record {
-  inputs-fit = omega arith; nets-fit = omega arith; outputs-fit = omega arith;
+  inputs-fit = omega arith;
+  nets-fit = omega arith;
+  outputs-fit = omega arith;
   pins-match = λ i g h. absurd (not-suc-le-zero h);
   ordered = λ i g h. absurd (not-suc-le-zero h);
   outputs-declared = refl;
-  outputs-distinct = λ i j h l. absurd (not-suc-le-zero l) }
+  outputs-distinct = λ i j h l. absurd (not-suc-le-zero l);
+}
 
 pub accepted-lawful : (bs : List ℕ) (d : Netlist) → Accepted bs d → Lawful d
 accepted-lawful bs d a =
@@ -88,8 +94,16 @@ accepted-lawful bs d a =
     let i : 1 ≤ d .inputs = grind (arith, c .0) in
     let o : 1 ≤ length (d .outputs) = grind (arith, c .1) in
     record {
-      some-input = i; inputs-fit = s .inputs-fit; nets-fit = s .nets-fit; some-output = o; outputs-fit = s .outputs-fit;
-      pins-match = s .pins-match; ordered = s .ordered; outputs-declared = s .outputs-declared; outputs-distinct = s .outputs-distinct }
+      some-input = i;
+      inputs-fit = s .inputs-fit;
+      nets-fit = s .nets-fit;
+      some-output = o;
+      outputs-fit = s .outputs-fit;
+      pins-match = s .pins-match;
+      ordered = s .ordered;
+      outputs-declared = s .outputs-declared;
+      outputs-distinct = s .outputs-distinct;
+    }
 
 pub reading-lawful : (bs : List ℕ) (d : Netlist) → Bytes bs → reading bs ≡ Ok d → Lawful d
 reading-lawful bs d y e = accepted-lawful bs d (agree .accepts bs y d e)

@@ -35,13 +35,13 @@ often-two p q x y a =
     let hp = here p p refl in
     let hq = here q q refl in
     ⊎-elim
-      (λ e. let s : one q p ≡ one q x = ap (one q) e in inl (e, stands-there q y (omega arith)))
-      (λ e. let n = away p x e in
-            let t = little p y in
-            let f = stands-there p y (omega arith) in
-            let s : one q p ≡ one q y = ap (one q) f in
-            inr (f, stands-there q x (omega arith)))
-      (cases-eq p x)
+    (λ e. let s : one q p ≡ one q x = ap (one q) e in inl (e, stands-there q y (omega arith)))
+    (λ e. let n = away p x e in
+    let t = little p y in
+    let f = stands-there p y (omega arith) in
+    let s : one q p ≡ one q y = ap (one q) f in
+    inr (f, stands-there q x (omega arith)))
+    (cases-eq p x)
 
 pub swapped-often : (p q : ℕ) → AsOften (p ∷ q ∷ []) (q ∷ p ∷ [])
 swapped-often p q n = omega arith
@@ -61,9 +61,9 @@ never-one-two z x y a =
     let lz = little x z in
     let zx = stands-there x z (omega arith) in
     ⊎-elim
-      (λ e. let s = here x y e in omega arith)
-      (λ e. let n = away x y e in
-            let lw = little y z in
-            let zy = stands-there y z (omega arith) in
-            e (zx ∙ sym zy))
-      (cases-eq x y)
+    (λ e. let s = here x y e in omega arith)
+    (λ e. let n = away x y e in
+    let lw = little y z in
+    let zy = stands-there y z (omega arith) in
+    e (zx ∙ sym zy))
+    (cases-eq x y)

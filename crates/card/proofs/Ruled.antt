@@ -54,7 +54,8 @@ along (c ∷ cs) rest at n d k l =
       left = i .left;
       enough = i .enough;
       same = ap (λ x. readFrom n x at d) a ∙ r .2 ∙ ap (λ x. readFrom (r .0) x (at + sizeOf c) (adds d c)) dr ∙ i .same
-        ∙ ap (λ x. readFrom (i .left) rest x (declaredBy (adds d c) cs)) z }
+          ∙ ap (λ x. readFrom (i .left) rest x (declaredBy (adds d c) cs)) z;
+    }
   where
     one-byte : (c : Command) → 1 ≤ sizeOf c
     one-byte AddInput = omega arith
@@ -92,10 +93,14 @@ behind d at rest after c r n w k s u =
     let lt = length-append (spelled c) (allSpelled (u .commands)) in
     let up = u .places in
     record {
-      commands = c ∷ u .commands; tail = u .tail; place = u .place; keep = (n, w, k, u .keep);
+      commands = c ∷ u .commands;
+      tail = u .tail;
+      place = u .place;
+      keep = (n, w, k, u .keep);
       spell = s ∙ ap (λ x. spelled c ++ x) (u .spell) ∙ sym (append-assoc (spelled c) (allSpelled (u .commands)) (u .tail));
       places = omega arith;
-      finish = u .finish }
+      finish = u .finish;
+    }
 
 bytes-left : (k : ℕ) (bs : List ℕ) → Bytes bs → Bytes (drop k bs)
 bytes-left k bs y i = subst (λ x. x < 256) (sym (getD-drop k bs i 0)) (y (k + i))
@@ -116,21 +121,21 @@ module _ (n : ℕ) (later : Later n) (d : Netlist) (rest : List ℕ) (at : ℕ) 
       let lr = ap length s ∙ length-append (spelled c) tail in
       let l : length (drop (sizeOf c) rest) < n = omega arith in
       behind d at rest (drop (sizeOf c) rest) c _ e w (keeps-rules d c at f)
-        (s ∙ ap (λ x. spelled c ++ x) (sym (ap (drop (sizeOf c)) s ∙ drop-at (spelled c) tail (sizeOf c) (length-spelled c))))
-        (later (drop (sizeOf c) rest) (at + sizeOf c) (adds d c) (bytes-left (sizeOf c) rest bytes) l)
+      (s ∙ ap (λ x. spelled c ++ x) (sym (ap (drop (sizeOf c)) s ∙ drop-at (spelled c) tail (sizeOf c) (length-spelled c))))
+      (later (drop (sizeOf c) rest) (at + sizeOf c) (adds d c) (bytes-left (sizeOf c) rest bytes) l)
 
   -- the end command, with or without bytes behind it
   at-end : (tail : List ℕ) → rest ≡ 0x7f ∷ tail → KeepsRules d End → Outcome d at rest (onward next d (accepted d End rest at))
   at-end [] s k =
       let l = ap length s in
       cond-both (ltb 1 (length rest)) _ _ (λ x. Outcome d at rest (onward next d x))
-        (λ e. let b = ltb-true 1 (length rest) e in absurd (omega arith))
-        (λ e. here d at rest _ (f-end s k))
+      (λ e. let b = ltb-true 1 (length rest) e in absurd (omega arith))
+      (λ e. here d at rest _ (f-end s k))
   at-end (b ∷ after) s k =
       let l = ap length s in
       cond-both (ltb 1 (length rest)) _ _ (λ x. Outcome d at rest (onward next d x))
-        (λ e. here d at rest _ (f-trailing b after s k))
-        (λ e. let u = ltb-false 1 (length rest) e in absurd (omega arith))
+      (λ e. here d at rest _ (f-trailing b after s k))
+      (λ e. let u = ltb-false 1 (length rest) e in absurd (omega arith))
 
   take-command : (c : Command) (tail : List ℕ) → WellFormed c → rest ≡ spelled c ++ tail → faultOf d c at ≡ None → Outcome d at rest (onward next d (accepted d c rest at))
   take-command AddInput tail w s f = go-on AddInput tail (λ e. let z : _≡_ {A = ℕ} 0 1 = cc in omega (arith, z)) w s f (omega arith)
@@ -188,9 +193,12 @@ reached bs o d rest b =
     let l = ap length (b .spell) in
     let u = along (b .commands) rest 0 (suc (length bs)) nothing (b .keep) (omega arith) in
     let bo = b .offset in
-    let z : 0 + length (allSpelled (b .commands)) ≡ o = omega arith in
-    (u .left, u .enough, ap (λ x. readFrom (suc (length bs)) x 0 nothing) (b .spell) ∙ u .same
-      ∙ ap (λ x. readFrom (u .left) rest x (declaredBy nothing (b .commands))) z ∙ ap (readFrom (u .left) rest o) (sym (b .declare)))
+    let z : 0 + length (allSpelled (b .commands)) ≡ o = omega arith in (
+      u .left,
+      u .enough,
+      ap (λ x. readFrom (suc (length bs)) x 0 nothing) (b .spell) ∙ u .same
+          ∙ ap (λ x. readFrom (u .left) rest x (declaredBy nothing (b .commands))) z ∙ ap (readFrom (u .left) rest o) (sym (b .declare)),
+    )
 
 pub record Answered (bs : List ℕ) (r o : ℕ) : Type 0 where
   pub fault : CardFault
@@ -214,14 +222,20 @@ answered bs r o (broken {o = p} {r = t} c {d} rest w s f) =
     record { fault = y .fault; is = q .2 ∙ read-bad (spelled c ++ rest) p d (q .0) (y .fault) (q .1) (step-broken d (spelled c ++ rest) p c (y .fault) (sym (spelled-decoded c rest p w)) (y .is)); number = y .number; offset = y .offset }
 answered bs r o (trailing {o = p} {b} {d} {rest} s k) =
     let q = reached bs p d (0x7f ∷ b ∷ rest) s in
-    record { fault = Trailing (p + 1); is = q .2 ∙ read-bad (0x7f ∷ b ∷ rest) p d (q .0) (Trailing (p + 1)) (q .1)
-      (step-accepted d (0x7f ∷ b ∷ rest) p End (sym (spelled-decoded End (b ∷ rest) p tt)) (no-fault d End p k) ∙ accepted-trailing d End (0x7f ∷ b ∷ rest) p refl (omega arith)); number = refl; offset = refl }
+    record {
+      fault = Trailing (p + 1);
+      is = q .2 ∙ read-bad (0x7f ∷ b ∷ rest) p d (q .0) (Trailing (p + 1)) (q .1)
+          (step-accepted d (0x7f ∷ b ∷ rest) p End (sym (spelled-decoded End (b ∷ rest) p tt)) (no-fault d End p k) ∙ accepted-trailing d End (0x7f ∷ b ∷ rest) p refl (omega arith));
+      number = refl;
+      offset = refl;
+    }
 
 pub agree : Agree
 agree = record {
   accepts = λ bs y d e. let u = outcome (suc (length bs)) bs 0 nothing y (omega arith) in accepts-by bs (u .place) _ (u .tail) (begins bs (reading bs) u) d (reading bs) e (u .finish);
   accepted = λ bs d a.
-    let q = reached bs (a .at) d (0x7f ∷ []) (a .begins) in
-    q .2 ∙ read-done (0x7f ∷ []) (a .at) d (q .0) (q .1) (step-accepted d (0x7f ∷ []) (a .at) End (sym (spelled-decoded End [] (a .at) tt)) (no-fault d End (a .at) (a .complete)) ∙ accepted-end d End (0x7f ∷ []) (a .at) refl (omega arith));
+      let q = reached bs (a .at) d (0x7f ∷ []) (a .begins) in
+      q .2 ∙ read-done (0x7f ∷ []) (a .at) d (q .0) (q .1) (step-accepted d (0x7f ∷ []) (a .at) End (sym (spelled-decoded End [] (a .at) tt)) (no-fault d End (a .at) (a .complete)) ∙ accepted-end d End (0x7f ∷ []) (a .at) refl (omega arith));
   refuses = λ bs y e p. let u = outcome (suc (length bs)) bs 0 nothing y (omega arith) in refuses-by bs (u .place) _ (u .tail) (begins bs (reading bs) u) e (reading bs) p (u .finish);
-  refused = λ bs r o f. let a = answered bs r o f in (a .fault, a .is, a .number, a .offset) }
+  refused = λ bs r o f. let a = answered bs r o f in (a .fault, a .is, a .number, a .offset);
+}

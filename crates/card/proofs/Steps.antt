@@ -79,7 +79,7 @@ module _ (rest : List ℕ) (at : ℕ) (d : Netlist) where
   read-step (suc m) l = (m, refl, refl)
 
   pub read-more : (n size : ℕ) (e : Netlist) → length rest < n → 1 ≤ size → size ≤ length rest → stepOf d rest at ≡ more e size
-    → (m : ℕ) × (length rest < m + size) × (readFrom n rest at d ≡ readFrom m (drop size rest) (at + size) e)
+      → (m : ℕ) × (length rest < m + size) × (readFrom n rest at d ≡ readFrom m (drop size rest) (at + size) e)
   read-more n size e l h k p =
       let r = read-step n l in
       let z = r .1 in
@@ -102,7 +102,7 @@ stepped-none n None d e p h = h
 -- the reader's loop: `rest` is what is left of the bytes from the offset on
 module _ (bs rest : List ℕ) (at : ℕ) (d : Netlist) (left : rest ≡ drop at bs) (whole : Result Netlist CardFault) where
   pub loop-more : (n size : ℕ) (e : Netlist) → at ≤ length bs → length (drop at bs) < n → whole ≡ readFrom n (drop at bs) at d → 1 ≤ size → size ≤ length rest → stepOf d rest at ≡ more e size
-    → (at + size ≤ length bs) × ((m : ℕ) × (length (drop (at + size) bs) < m) × (whole ≡ readFrom m (drop (at + size) bs) (at + size) e))
+      → (at + size ≤ length bs) × ((m : ℕ) × (length (drop (at + size) bs) < m) × (whole ≡ readFrom m (drop (at + size) bs) (at + size) e))
   loop-more n size e a l w h k p =
       let len : length rest ≡ length bs - at = ap length left ∙ length-drop at bs in
       let lft : length (drop at bs) ≡ length bs - at = length-drop at bs in

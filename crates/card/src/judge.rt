@@ -26,7 +26,11 @@ fn all_declared(operands: Operands, nets: usize, at: usize) -> Result<(), Operan
         Operands::One(only) => (only as usize) < nets,
         Operands::Two(first, second) => (first as usize) < nets && (second as usize) < nets,
     };
-    if declared { Ok(()) } else { Err(OperandFault::Undeclared(at)) }
+    if declared {
+        Ok(())
+    } else {
+        Err(OperandFault::Undeclared(at))
+    }
 }
 
 // Whether a net is among the outputs.
@@ -51,7 +55,9 @@ pub fn judge(draft: &Draft, command: Command, at: usize) -> Result<(), CardFault
         Command::AddInput if draft.inputs >= 32 => Err(CardFault::Limit(at)),
         Command::AddGate(_) if nets >= 256 => Err(CardFault::Limit(at)),
         Command::AddOutput(_) if draft.output_count >= 32 => Err(CardFault::Limit(at)),
-        Command::End if draft.inputs == 0 || draft.output_count == 0 => Err(CardFault::Incomplete(at)),
+        Command::End if draft.inputs == 0 || draft.output_count == 0 => Err(CardFault::Incomplete(
+            at,
+        )),
         Command::AddGate(gate) => {
             all_declared(gate.operands, nets, at)?;
             Ok(())

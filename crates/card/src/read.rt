@@ -35,8 +35,17 @@ impl Draft {
     fn new() -> Draft
         ensures declares_nothing { λ r. ⌜ draftOf r ≡ nothing ⌝ }
     {
-        let unused = Gate { function: Function::Zero, operands: Operands::None };
-        Draft { inputs: 0, gates: [unused; 256], gate_count: 0, outputs: [0; 32], output_count: 0 }
+        let unused = Gate {
+            function: Function::Zero,
+            operands: Operands::None,
+        };
+        Draft {
+            inputs: 0,
+            gates: [unused; 256],
+            gate_count: 0,
+            outputs: [0; 32],
+            output_count: 0,
+        }
     }
 
     // What the command declares, added to the draft.
@@ -110,7 +119,11 @@ fn card_of(heap: Global, draft: &Draft) -> Result<Card, AllocError>
 {
     let gates = Vec::from_slice(heap, &draft.gates[0..draft.gate_count])?;
     let outputs = Vec::from_slice(heap, &draft.outputs[0..draft.output_count])?;
-    Ok(Card { inputs: draft.inputs, gates, outputs })
+    Ok(Card {
+        inputs: draft.inputs,
+        gates,
+        outputs,
+    })
 }
 
 impl Card {

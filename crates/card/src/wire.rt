@@ -12,6 +12,10 @@ impl Card {
         ensures is_one_input_that_is_the_output { λ r. ⌜ made r (λ card. netlistOf card ≡ smallest) ⌝ }
     {
         let outputs = Vec::from_slice(heap, &[0])?;
-        Ok(Card { inputs: 1, gates: Vec::new(heap), outputs })
+        Ok(Card {
+            inputs: 1,
+            gates: Vec::new(heap),
+            outputs,
+        })
     }
 }

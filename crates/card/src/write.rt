@@ -39,7 +39,9 @@ fn write_gate(bytes: &mut Vec<u8>, gate: Gate) -> Result<(), AllocError>
     match gate.operands {
         Operands::None => bytes.extend_from_slice(&[command])?,
         Operands::One(only) => bytes.extend_from_slice(&[command, high(only), low(only)])?,
-        Operands::Two(first, second) => bytes.extend_from_slice(&[command, high(first), low(first), high(second), low(second)])?,
+        Operands::Two(first, second) => bytes.extend_from_slice(
+            &[command, high(first), low(first), high(second), low(second)],
+        )?,
     }
     Ok(())
 }

@@ -8,6 +8,7 @@ use lib.ListN.{length, drop}
 use Rattle.std.specs.declared.result.Result.{Result}
 use Rattle.std.specs.declared.result.Result.the-variants.{Ok, Err}
 use Rattle.card.specs.declared.fault.CardFault.{CardFault}
+use Rattle.card.specs.declared.fault.CardFault.the-variants.{Memory}
 use Rattle.card.specs.Netlists.{Netlist}
 use Rattle.vectors.specs.Vectors.{holding, inForm}
 use Rattle.vectors.specs.declared.fault.VectorFault.the-variants.{NotInForm}
@@ -29,7 +30,21 @@ expectation (Ok c) care value room = cond (inForm (c .inputs) care value) (shown
 abbrev pub over : List ℕ → List ℕ → List ℕ
 over shown buffer = shown ++ drop (length shown) buffer
 
--- the answer in the tester's numbers, with the buffer before and after
-abbrev pub Answered : Result (List ℕ) TesterFault → ℕ → List ℕ → List ℕ → Type 0
-Answered (Ok shown) r before after = (r ≡ length shown) × (after ≡ over shown before)
-Answered (Err e) r before after = (r ≡ 100 + testerNumber e) × (after ≡ before)
+-- the answer: how many characters, or the refusal
+abbrev pub answerOf : Result (List ℕ) TesterFault → Result ℕ TesterFault
+answerOf (Ok shown) = Ok (length shown)
+answerOf (Err e) = Err e
+
+-- the buffer afterwards: a refusal leaves it
+abbrev pub leftIn : Result (List ℕ) TesterFault → List ℕ → List ℕ
+leftIn (Ok shown) buffer = over shown buffer
+leftIn (Err e) buffer = buffer
+
+-- the answer in the tester's numbers: the count of outputs, or 100 plus the number of the refusal
+abbrev pub codeOf : Result ℕ TesterFault → ℕ
+codeOf (Ok m) = m
+codeOf (Err e) = 100 + testerNumber e
+
+-- there is no memory to hold the card
+abbrev pub noMemory : TesterFault
+noMemory = Card Memory

@@ -5,6 +5,7 @@ ghost use Prim.Native.Nat.{ℕ, _≤_};
 ghost use lib.Dec.{leb};
 ghost use lib.ListN.{length, take};
 ghost use Rattle.std.specs.Results.{Cases, isOk};
+ghost use Rattle.std.specs.Vec.{made};
 ghost use Rattle.card.specs.Netlists.{Lawful, nets as netCount};
 ghost use Rattle.card.specs.Views.{netlistOf};
 ghost use Rattle.vectors.specs.Views.{cellsOf};
@@ -34,6 +35,7 @@ fn show(card: &Card, vector: &Vector, nets: &[Ternary; 256], out: &mut [u8])
 pub fn expected_outputs(card: &Card, vector: &Vector, out: &mut [u8]) -> Result<usize, TesterFault>
     ensures refused_exactly_for_want_of_room { λ r. ⌜ isOk r ≡ leb (length (netlistOf (now (card .entry)) .outputs)) (length (now (out .entry))) ⌝ }
     ensures answers_how_many_or_names_the_refusal { λ r. ⌜ Cases r (λ m. m ≡ length (netlistOf (now (card .entry)) .outputs)) (λ e. e ≡ Room) ⌝ }
+    ensures answers_one_to_thirty_two { λ r. ⌜ made r (λ m. (1 ≤ m) × (m ≤ 32)) ⌝ }
     ensures writes_the_characters_or_nothing { λ r. ⌜ now (out .exit) ≡ cond (isOk r) (over (characters (netlistOf (now (card .entry))) (cellsOf (now (vector .entry)))) (now (out .entry))) (now (out .entry)) ⌝ }
     ensures a_bit_shown_is_what_every_filling_makes { λ _. ⌜ Truthful (netlistOf (now (card .entry))) (cellsOf (now (vector .entry))) (characters (netlistOf (now (card .entry))) (cellsOf (now (vector .entry)))) ⌝ }
 {

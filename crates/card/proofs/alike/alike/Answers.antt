@@ -18,7 +18,8 @@ returns c =
     let d = c .same-outputs-outputs .ensures .says-whether-the-outputs-are-the-same in
     record {
       says-whether-the-cards-are-alike = alike-decides a b _ _ _
-        (ap (λ x. eqb x (c .inputs-2 .result)) i ∙ ap (eqb (a .inputs)) j)
-        (c .same-gates-gates .ensures .says-whether-each-gate-is-the-same ∙ ap (λ x. sameGates x (c .gates-2 .result .now)) g ∙ ap (sameGates (a .gates)) h)
-        ((λ t. sym p ∙ d .0 t ∙ q), (λ e. d .1 (p ∙ e ∙ sym q)));
-      alikeness-is-an-equivalence = alike-laws }
+          (ap (λ x. eqb x (c .inputs-2 .result)) i ∙ ap (eqb (a .inputs)) j)
+          (c .same-gates-gates .ensures .says-whether-each-gate-is-the-same ∙ ap (λ x. sameGates x (c .gates-2 .result .now)) g ∙ ap (sameGates (a .gates)) h)
+          ((λ t. sym p ∙ d .0 t ∙ q), (λ e. d .1 (p ∙ e ∙ sym q)));
+      alikeness-is-an-equivalence = alike-laws;
+    }

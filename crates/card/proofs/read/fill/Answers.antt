@@ -27,7 +27,7 @@ loop-size-again c =
     let i = c .loop-size .inv in
     let h = cases-at-some _ _ _ (c .in-Some .is) (c .in-Continue-size .ensures tt .stays-within-the-bytes) in
     loop-more (c .args .bytes .now) _ (c .loop-size .at) (draftOf (c .loop-size .draft)) (take-rest (c .args .bytes .now) (c .loop-size .at)) _ (i .1 .0) _ _ (i .0) (i .1 .1) (i .1 .2) (h .0) (h .1)
-      (stepped-some _ _ _ _ _ (c .in-Some .is) (c .in-Continue-size .ensures tt .goes-one-command-on))
+    (stepped-some _ _ _ _ _ (c .in-Some .is) (c .in-Continue-size .ensures tt .goes-one-command-on))
 
 pub returns-in-None : need.returns-in-None
 returns-in-None c =

@@ -14,7 +14,8 @@ returns-in-Break-spelled-card c =
       want-of-memory-refuses-only-bytes-that-spell-a-card = h .want-of-memory-refuses-only-bytes-that-spell-a-card;
       a-refusal-keeps-the-lent-card = refl;
       is-what-the-definition-reads = h .is-what-the-definition-reads;
-      definition-and-rules-agree = agree })
+      definition-and-rules-agree = agree;
+    })
 
 pub returns : need.returns
 returns c =
@@ -25,4 +26,5 @@ returns c =
       want-of-memory-refuses-only-bytes-that-spell-a-card = tt;
       a-refusal-keeps-the-lent-card = tt;
       is-what-the-definition-reads = h .is-what-the-definition-reads;
-      definition-and-rules-agree = agree }
+      definition-and-rules-agree = agree;
+    }

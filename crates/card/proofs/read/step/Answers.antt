@@ -31,19 +31,25 @@ pub returns-then-rest-gt1 : need.returns-then-rest-gt1
 returns-then-rest-gt1 c =
     record {
       goes-one-command-on = step-accepted (draftOf (c .args .draft .now)) (c .args .rest .now) (c .args .at) _ (c .in-Continue-command .ensures tt .is-the-command-or-its-fault) (c .in-Continue-judge .ensures tt .refuses-the-first-broken-rule)
-        ∙ accepted-trailing (draftOf (c .args .draft .now)) (c .in-Continue-command .command) (c .args .rest .now) (c .args .at) (c .in-End .is) (c .if-rest-gt1 .taken);
-      stays-within-the-bytes = tt }
+          ∙ accepted-trailing (draftOf (c .args .draft .now)) (c .in-Continue-command .command) (c .args .rest .now) (c .args .at) (c .in-End .is) (c .if-rest-gt1 .taken);
+      stays-within-the-bytes = tt;
+    }
 
 pub returns-in-End : need.returns-in-End
 returns-in-End c =
     record {
-      goes-one-command-on = (step-accepted (draftOf (c .args .draft .now)) (c .args .rest .now) (c .args .at) _ (c .in-Continue-command .ensures tt .is-the-command-or-its-fault) (c .in-Continue-judge .ensures tt .refuses-the-first-broken-rule)
-        ∙ accepted-end (draftOf (c .args .draft .now)) (c .in-Continue-command .command) (c .args .rest .now) (c .args .at) (c .in-End .is) (c .if-rest-gt1 .left), refl);
-      stays-within-the-bytes = tt }
+      goes-one-command-on = (
+        step-accepted (draftOf (c .args .draft .now)) (c .args .rest .now) (c .args .at) _ (c .in-Continue-command .ensures tt .is-the-command-or-its-fault) (c .in-Continue-judge .ensures tt .refuses-the-first-broken-rule)
+            ∙ accepted-end (draftOf (c .args .draft .now)) (c .in-Continue-command .command) (c .args .rest .now) (c .args .at) (c .in-End .is) (c .if-rest-gt1 .left),
+        refl,
+      );
+      stays-within-the-bytes = tt;
+    }
 
 pub returns : need.returns
 returns c =
     record {
       goes-one-command-on = step-accepted (draftOf (c .args .draft .now)) (c .args .rest .now) (c .args .at) _ (c .in-Continue-command .ensures tt .is-the-command-or-its-fault) (c .in-Continue-judge .ensures tt .refuses-the-first-broken-rule)
-        ∙ accepted-more (draftOf (c .args .draft .now)) (c .in-Continue-command .command) (c .args .rest .now) (c .args .at) _ _ (c .in-rest .not-End) (c .add .ensures .holds-one-declaration-more) (c .size .ensures .is-one-byte-and-two-for-each-operand);
-      stays-within-the-bytes = search needs }
+          ∙ accepted-more (draftOf (c .args .draft .now)) (c .in-Continue-command .command) (c .args .rest .now) (c .args .at) _ _ (c .in-rest .not-End) (c .add .ensures .holds-one-declaration-more) (c .size .ensures .is-one-byte-and-two-for-each-operand);
+      stays-within-the-bytes = search needs;
+    }

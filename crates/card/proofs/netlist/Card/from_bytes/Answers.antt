@@ -24,7 +24,8 @@ returns-in-Break-draft c =
       a-refusal-names-the-first-broken-rule-and-its-place = λ _. f;
       want-of-memory-refuses-only-bytes-that-spell-a-card = λ m. absurd (no-rule-zero bs _ _ f (ap refusalNumber m));
       is-what-the-definition-reads = λ _. h;
-      definition-and-rules-agree = agree })
+      definition-and-rules-agree = agree;
+    })
 
 pub card-of-requires : need.card-of-requires
 card-of-requires c κs = reading-lawful (c .args .bytes .now) _ (λ i. omega (arith, c .typed .bytes i)) (c .in-Continue-draft .ensures tt .holds-what-the-bytes-say)
@@ -40,7 +41,8 @@ returns-in-Break-spelled-card c =
       a-refusal-names-the-first-broken-rule-and-its-place = λ n. absurd (n refl);
       want-of-memory-refuses-only-bytes-that-spell-a-card = λ _. (draftOf (c .in-Continue-draft .draft), agree .accepts bs y _ h);
       is-what-the-definition-reads = λ n. absurd (n refl);
-      definition-and-rules-agree = agree })
+      definition-and-rules-agree = agree;
+    })
 
 pub returns : need.returns
 returns c =
@@ -52,4 +54,5 @@ returns c =
       a-refusal-names-the-first-broken-rule-and-its-place = tt;
       want-of-memory-refuses-only-bytes-that-spell-a-card = tt;
       is-what-the-definition-reads = h;
-      definition-and-rules-agree = agree }
+      definition-and-rules-agree = agree;
+    }
