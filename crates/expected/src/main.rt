@@ -5,6 +5,8 @@ use card::netlist::Card;
 use std::env;
 use std::error::AnyError;
 use std::fs;
+use std::io::BufRead;
+use std::io::BufReader;
 use tester::outputs::expected_outputs;
 use vectors::row::row;
 
@@ -47,7 +49,7 @@ fn run(rt: &LibcRuntime) -> Result<(), AnyError> {
     let bytes = fs::read(rt, path.as_str())?;
     match Card::from_bytes(rt.alloc(), bytes.as_slice()) {
         Ok(card) => {
-            for line in rt.lines(rt.alloc()) {
+            for line in BufReader::new(rt.stdin()).lines(rt.alloc()) {
                 let text = line?;
                 answer(rt, &card, text.as_str())?;
             }
