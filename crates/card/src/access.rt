@@ -12,7 +12,7 @@ impl Card {
         ensures counts_the_inputs { λ r. ⌜ r ≡ netlistOf (now (self .entry)) .inputs ⌝ }
         ensures every_card_keeps_the_rules { λ _. ⌜ Lawful (netlistOf (now (self .entry))) ⌝ }
     {
-        self.inputs as usize
+        usize::from(self.inputs)
     }
 
     // The gates in order; gate i makes net inputs + i.
