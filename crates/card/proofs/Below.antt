@@ -13,17 +13,23 @@ use Rattle.std.proofs.shelf.Tests.{and-parts, and-from, ltb-true, lt-ltb, or-pa
 use Rattle.card.specs.Commands.{stands}
 use Rattle.card.specs.Netlists.{Distinct, allBelow}
 
-pub below-at : (n : ℕ) (xs : List ℕ) → allBelow n xs ≡ true → (p : ℕ) → p < length xs → getD xs p 0 < n
-below-at n [] e p h = absurd (not-suc-le-zero h)
-below-at n (x ∷ xs) e zero h = ltb-true x n (and-parts (ltb x n) (allBelow n xs) e .0)
-below-at n (x ∷ xs) e (suc p) h = below-at n xs (and-parts (ltb x n) (allBelow n xs) e .1) p (le-of-suc-le-suc h)
+pub below-head : (n x : ℕ) (xs : List ℕ) → allBelow n (x ∷ xs) ≡ true → x < n
+below-head n x xs e = ltb-true x n (and-parts (ltb x n) (allBelow n xs) e .0)
 
-pub below-more-bound : (m n : ℕ) (xs : List ℕ) → m ≤ n → allBelow m xs ≡ true → allBelow n xs ≡ true
-below-more-bound m n [] h e = refl
-below-more-bound m n (x ∷ xs) h e =
-    let p = and-parts (ltb x m) (allBelow m xs) e in
-    let q = ltb-true x m (p .0) in
-    and-from (ltb x n) (allBelow n xs) (lt-ltb x n (omega arith)) (below-more-bound m n xs h (p .1))
+pub below-tail : (n x : ℕ) (xs : List ℕ) → allBelow n (x ∷ xs) ≡ true → allBelow n xs ≡ true
+below-tail n x xs e = and-parts (ltb x n) (allBelow n xs) e .1
+
+pub below-at : (n : ℕ) (xs : List ℕ) (i d : ℕ) → allBelow n xs ≡ true → i < length xs → getD xs i d < n
+below-at n [] i d e h = absurd (not-suc-le-zero h)
+below-at n (x ∷ xs) zero d e h = below-head n x xs e
+below-at n (x ∷ xs) (suc i) d e h = below-at n xs i d (below-tail n x xs e) (le-of-suc-le-suc h)
+
+-- a greater bound
+pub below-weaken : (n m : ℕ) (xs : List ℕ) → n ≤ m → allBelow n xs ≡ true → allBelow m xs ≡ true
+below-weaken n m [] h e = refl
+below-weaken n m (x ∷ xs) h e =
+    let l = below-head n x xs e in
+    and-from (ltb x m) (allBelow m xs) (lt-ltb x m (omega arith)) (below-weaken n m xs h (below-tail n x xs e))
 
 pub below-push : (n : ℕ) (xs : List ℕ) (y : ℕ) → allBelow n xs ≡ true → y < n → allBelow n (xs ++ (y ∷ [])) ≡ true
 below-push n [] y e h = and-from (ltb y n) true (lt-ltb y n h) refl

@@ -17,7 +17,7 @@ use Rattle.card.specs.Functions.{pinCount}
 use Rattle.card.specs.Netlists.{Distinct, Lawful, Netlist, Ordered, PinsMatch, allBelow, nets, pinsOf}
 use Rattle.card.specs.Reading.{nothing, reading}
 use Rattle.card.specs.Rules.{Accepted, AllKeepRules, BreaksFirst, Bytes, KeepsRules, Refused, WellFormed, breaks, broken, cut, declaredBy, ended, trailing, unknown}
-use Rattle.card.proofs.Below.{below-more-bound, below-push, distinct-push, each-push}
+use Rattle.card.proofs.Below.{below-push, below-weaken, distinct-push, each-push}
 use Rattle.card.proofs.Ruled.{agree}
 
 -- the rules of a card that is not yet ended
@@ -41,7 +41,7 @@ one-more d AddInput s w k =
       outputs-fit = s .outputs-fit;
       pins-match = s .pins-match;
       ordered = λ i g h. absurd (omega arith);
-      outputs-declared = below-more-bound (nets d) (d .inputs + 1 + length (d .gates)) (d .outputs) (omega arith) (s .outputs-declared);
+      outputs-declared = below-weaken (nets d) (d .inputs + 1 + length (d .gates)) (d .outputs) (omega arith) (s .outputs-declared);
       outputs-distinct = s .outputs-distinct;
     }
 one-more d (AddGate g) s w k =
@@ -53,7 +53,7 @@ one-more d (AddGate g) s w k =
       outputs-fit = s .outputs-fit;
       pins-match = each-push (λ i x. length (pinsOf x) ≡ pinCount (x .function)) (d .gates) g (s .pins-match) w;
       ordered = each-push (λ i x. allBelow (d .inputs + i) (pinsOf x) ≡ true) (d .gates) g (s .ordered) (not-false _ (k 5));
-      outputs-declared = below-more-bound (nets d) (d .inputs + length (d .gates ++ (g ∷ []))) (d .outputs) (omega arith) (s .outputs-declared);
+      outputs-declared = below-weaken (nets d) (d .inputs + length (d .gates ++ (g ∷ []))) (d .outputs) (omega arith) (s .outputs-declared);
       outputs-distinct = s .outputs-distinct;
     }
 one-more d (AddOutput n) s w k =

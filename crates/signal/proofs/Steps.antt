@@ -16,7 +16,7 @@ use Rattle.card.specs.Netlists.{Ordered, allBelow, pinsOf}
 use Rattle.signal.specs.declared.line.Stuck.{Stuck}
 use Rattle.signal.specs.Operations.{Operations}
 use Rattle.signal.specs.Gates.{truth}
-use Rattle.signal.proofs.Below.{below-head, below-tail}
+use Rattle.card.proofs.Below.{below-head, below-tail}
 use Rattle.signal.specs.Walks.{unlessStuck, pinValues, gateNet, walked, entered, sticksPin, sticksNet}
 
 -- the pins of gate i, where the card's own counts k and gs are read off it as r and items

@@ -44,12 +44,13 @@ pub record Shows (e : Result (List ℕ) TesterFault) (r : Result ℕ TesterFault
   pub left : after ≡ leftIn e before
 
 pub shows : (c : Netlist) (v w : Cells) (room : ℕ) (r : Result ℕ TesterFault) (before after : List ℕ) → v ≡ w → isOk r ≡ leb (length (c .outputs)) room → Cases r (λ m. m ≡ length (c .outputs)) (λ e. e ≡ Room)
-  → after ≡ cond (isOk r) (over (characters c v) before) before → Shows (shownIn room (characters c w)) r before after
+    → after ≡ cond (isOk r) (over (characters c v) before) before → Shows (shownIn room (characters c w)) r before after
 shows c v w room (Ok m) before after e t q a =
     let s : shownIn room (characters c w) ≡ Ok (characters c w) = cond-true (leb (length (characters c w)) room) _ _ (ap (λ x. leb x room) (length-characters c w) ∙ sym t) in
     record {
       answer = ap Ok (q ∙ sym (length-characters c w)) ∙ sym (ap answerOf s);
-      left = a ∙ ap (λ x. over (characters c x) before) e ∙ sym (ap (λ x. leftIn x before) s) }
+      left = a ∙ ap (λ x. over (characters c x) before) e ∙ sym (ap (λ x. leftIn x before) s);
+    }
 shows c v w room (Err f) before after e t q a =
     let s : shownIn room (characters c w) ≡ Err Room = cond-false (leb (length (characters c w)) room) _ _ (ap (λ x. leb x room) (length-characters c w) ∙ sym t) in
     record { answer = ap Err q ∙ sym (ap answerOf s); left = a ∙ sym (ap (λ x. leftIn x before) s) }

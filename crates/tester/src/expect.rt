@@ -18,7 +18,13 @@ use vectors::fault::VectorFault;
 use vectors::vector::Vector;
 
 // The same with the refusal as a value, the card's fault carried whole.
-pub fn expect_from_bytes(heap: Global, bytes: &[u8], care: u32, value: u32, out: &mut [u8]) -> Result<usize, TesterFault>
+pub fn expect_from_bytes(
+    heap: Global,
+    bytes: &[u8],
+    care: u32,
+    value: u32,
+    out: &mut [u8],
+) -> Result<usize, TesterFault>
     ensures answers_what_is_expected { λ r. ⌜ ((r ≡ Err noMemory → ⊥) → r ≡ answerOf (expectation (reading (now (bytes .entry))) care value (length (now (out .entry))))) ⌝ }
     ensures leaves_what_is_expected { λ r. ⌜ ((r ≡ Err noMemory → ⊥) → now (out .exit) ≡ leftIn (expectation (reading (now (bytes .entry))) care value (length (now (out .entry)))) (now (out .entry))) ⌝ }
     ensures want_of_memory_refuses_only_a_lawful_card { λ r. ⌜ (r ≡ Err noMemory → (n : Netlist) × Accepted (now (bytes .entry)) n) ⌝ }

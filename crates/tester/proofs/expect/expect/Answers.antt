@@ -19,16 +19,18 @@ returns-in-Ok c =
       answers-what-is-expected = λ _. ap codeOf (h .answers-what-is-expected fine);
       leaves-what-is-expected = λ _. h .leaves-what-is-expected fine;
       one-hundred-is-want-of-memory-for-a-lawful-card = λ e. absurd (omega (arith, e, few .1));
-      a-refusal-leaves-the-buffer = λ l. absurd (omega (arith, l, few .1)) }
+      a-refusal-leaves-the-buffer = λ l. absurd (omega (arith, l, few .1));
+    }
 
 pub returns-in-Err : need.returns-in-Err
 returns-in-Err c =
     let h = c .in-Err .ensures tt in
     let n = c .number .ensures .is-the-refusals-number in
     let other : ((100 + c .number .result ≡ 100 → ⊥) → _≡_ {A = Result ℕ TesterFault} (Err (c .in-Err .fault)) (Err noMemory) → ⊥) =
-        λ z e. z (let f : c .in-Err .fault ≡ noMemory = cc in let k : testerNumber (c .in-Err .fault) ≡ 0 = ap testerNumber f in omega (arith, n, k)) in
+    λ z e. z (let f : c .in-Err .fault ≡ noMemory = cc in let k : testerNumber (c .in-Err .fault) ≡ 0 = ap testerNumber f in omega (arith, n, k)) in
     record {
       answers-what-is-expected = λ z. ap (λ x. 100 + x) n ∙ ap codeOf (h .answers-what-is-expected (other z));
       leaves-what-is-expected = λ z. h .leaves-what-is-expected (other z);
       one-hundred-is-want-of-memory-for-a-lawful-card = λ z. h .want-of-memory-refuses-only-a-lawful-card (ap Err (only-memory (c .in-Err .fault) (omega (arith, n, z))));
-      a-refusal-leaves-the-buffer = λ _. h .a-refusal-leaves-the-buffer }
+      a-refusal-leaves-the-buffer = λ _. h .a-refusal-leaves-the-buffer;
+    }

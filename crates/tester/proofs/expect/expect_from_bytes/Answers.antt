@@ -27,7 +27,8 @@ returns-in-Break-card c =
       leaves-what-is-expected = λ n. sym (ap (λ x. leftIn x (c .args .out .now)) (card-refused _ _ _ _ _ (h .is-what-the-definition-reads (λ m. n (ap (λ x. Err (Card x)) m)))));
       want-of-memory-refuses-only-a-lawful-card = λ m. h .want-of-memory-refuses-only-bytes-that-spell-a-card (cc);
       answers-one-to-thirty-two = tt;
-      a-refusal-leaves-the-buffer = refl })
+      a-refusal-leaves-the-buffer = refl;
+    })
 
 pub returns-in-Break-vector : need.returns-in-Break-vector
 returns-in-Break-vector c =
@@ -44,7 +45,8 @@ returns-in-Break-vector c =
       leaves-what-is-expected = λ _. sym (ap (λ x. leftIn x (c .args .out .now)) v);
       want-of-memory-refuses-only-a-lawful-card = λ m. (n, c .in-Continue-card .ensures tt .accepted-bytes-spell-the-card);
       answers-one-to-thirty-two = tt;
-      a-refusal-leaves-the-buffer = refl })
+      a-refusal-leaves-the-buffer = refl;
+    })
 
 pub returns : need.returns
 returns c =
@@ -57,10 +59,11 @@ returns c =
     let t : inForm (n .inputs) (c .args .care) (c .args .value) ≡ true = ap (λ k. inForm k (c .args .care) (c .args .value)) (sym (c .inputs .ensures .counts-the-inputs)) ∙ sym (h .taken-exactly-if-in-form) in
     let s = shown (reading bs) (c .args .care) (c .args .value) room n d t in
     let w = shows n (cellsOf (c .in-Continue-vector .vector)) (holding (c .args .care) (c .args .value)) room (c .expected-outputs .result) (c .args .out .now) (c .expected-outputs .last .out)
-              (h .holds-both-numbers) (o .refused-exactly-for-want-of-room) (o .answers-how-many-or-names-the-refusal) (o .writes-the-characters-or-nothing) in
+    (h .holds-both-numbers) (o .refused-exactly-for-want-of-room) (o .answers-how-many-or-names-the-refusal) (o .writes-the-characters-or-nothing) in
     record {
       answers-what-is-expected = λ _. w .answer ∙ sym (ap answerOf s);
       leaves-what-is-expected = λ _. w .left ∙ sym (ap (λ x. leftIn x (c .args .out .now)) s);
       want-of-memory-refuses-only-a-lawful-card = λ m. absurd (room-not-memory (c .expected-outputs .result) _ (o .answers-how-many-or-names-the-refusal) m);
       answers-one-to-thirty-two = o .answers-one-to-thirty-two;
-      a-refusal-leaves-the-buffer = refused-leaves (c .expected-outputs .result) _ _ _ (o .writes-the-characters-or-nothing) }
+      a-refusal-leaves-the-buffer = refused-leaves (c .expected-outputs .result) _ _ _ (o .writes-the-characters-or-nothing);
+    }

@@ -21,7 +21,8 @@ returns-then-out-count c =
       answers-how-many-or-names-the-refusal = refl;
       answers-one-to-thirty-two = tt;
       writes-the-characters-or-nothing = refl;
-      a-bit-shown-is-what-every-filling-makes = truthful n (cellsOf (c .args .vector .now)) (c .outputs-count .ensures .every-card-keeps-the-rules) }
+      a-bit-shown-is-what-every-filling-makes = truthful n (cellsOf (c .args .vector .now)) (c .outputs-count .ensures .every-card-keeps-the-rules);
+    }
 
 pub show-requires : need.show-requires
 show-requires c κs =
@@ -30,7 +31,8 @@ show-requires c κs =
     let t = c .if-out-count .left in
     record {
       walked = c .walk .ensures .every-net-has-its-value ∙ ap (netValues ternaryOperations None n) (c .enter .ensures .enters-the-cells);
-      room = omega (arith, o, t) }
+      room = omega (arith, o, t);
+    }
 
 pub returns : need.returns
 returns c =
@@ -42,4 +44,5 @@ returns c =
       answers-how-many-or-names-the-refusal = o;
       answers-one-to-thirty-two = let law = c .outputs-count .ensures .every-card-keeps-the-rules in let few = law .outputs-fit in let some = law .some-output in (omega (arith, o, some), omega (arith, o, few));
       writes-the-characters-or-nothing = c .show .ensures .writes-the-characters;
-      a-bit-shown-is-what-every-filling-makes = truthful n (cellsOf (c .args .vector .now)) (c .outputs-count .ensures .every-card-keeps-the-rules) }
+      a-bit-shown-is-what-every-filling-makes = truthful n (cellsOf (c .args .vector .now)) (c .outputs-count .ensures .every-card-keeps-the-rules);
+    }

@@ -34,7 +34,7 @@ loop-i-again c =
     let len = length-characters n v in
     let room = c .pre .room in
     over-more (characters n v) (c .args .out .now) (c .loop-i .out) (c .loop-i .i) (c .character .result) (c .loop-i .inv) (omega (arith, len, t, long)) (omega (arith, len, room))
-      (character-read n v (c .outputs-net-items .result .now) (c .args .nets .now) (c .loop-i .i) (c .character .result) _ o law t (search needs) (c .pre .walked) (c .character .ensures .is-the-cells-character))
+    (character-read n v (c .outputs-net-items .result .now) (c .args .nets .now) (c .loop-i .i) (c .character .result) _ o law t (search needs) (c .pre .walked) (c .character .ensures .is-the-cells-character))
 
 pub returns : need.returns
 returns c =
