@@ -1,0 +1,4 @@
+pub mod Resumed
+pub mod Scanned
+pub mod Trailing
+pub mod Looped
