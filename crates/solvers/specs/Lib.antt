@@ -4,3 +4,4 @@ pub mod Trails
 pub mod Resuming
 pub mod Looping
 pub mod Outcomes
+pub mod Stores

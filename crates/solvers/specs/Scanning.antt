@@ -2,7 +2,9 @@
 -- The clauses stand in one row of literals, each by the place where it ends.
 use mathlib.Core.Path.{_≡_}
 use mathlib.Core.List.{List, [], _∷_}
+use mathlib.Core.Bool.{Bool, _&&_}
 use Prim.Native.Nat.{ℕ, suc, _-_, _≤_}
+use lib.Dec.{eqb, leb}
 use lib.ListN.{length, take, drop}
 use lib.IntN.{ℤ}
 use Rattle.solving.specs.Settings.{Setting}
@@ -31,6 +33,11 @@ clausesFrom row from (e ∷ ends) = take (e - from) (drop from row) ∷ clausesF
 abbrev pub Ends : List ℤ → ℕ → List ℕ → Type 0
 Ends row from [] = from ≡ length row
 Ends row from (e ∷ ends) = (from ≤ e) × Ends row e ends
+
+-- the same as a test, for a row of n literals
+abbrev pub endsWell : ℕ → ℕ → List ℕ → Bool
+endsWell n from [] = eqb from n
+endsWell n from (e ∷ ends) = leb from e && endsWell n e ends
 
 -- what a part of a clause comes to together with what follows it
 abbrev pub combined : State → State → State

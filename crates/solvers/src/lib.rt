@@ -4,11 +4,11 @@ mod backtrack;
 //X mod backtracking;
 mod close;
 mod decision;
-//X mod keep;
+mod keep;
 mod literal;
 mod scan;
 pub mod stack;
-//X mod store;
+mod store;
 mod turn;
 
 //X pub use backtracking::Backtracking;
