@@ -3,3 +3,4 @@ pub mod Scanned
 pub mod Trailing
 pub mod Looped
 pub mod Stored
+pub mod Verdicts
