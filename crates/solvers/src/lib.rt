@@ -1,0 +1,16 @@
+// Two solvers that keep the interface of `solving`, step for step as they are defined there: backtracking and counting.
+// Both close by scanning their clauses; all memory is reserved when a solver is opened.
+mod backtrack;
+mod backtracking;
+mod close;
+mod decision;
+mod keep;
+mod literal;
+mod outcome;
+mod scan;
+pub mod stack;
+mod store;
+mod turn;
+
+pub use backtracking::Backtracking;
+pub use stack::Stack;
