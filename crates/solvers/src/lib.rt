@@ -13,4 +13,5 @@ mod store;
 mod turn;
 
 pub use backtracking::Backtracking;
+pub use backtracking::BacktrackingSolver;
 pub use stack::Stack;
