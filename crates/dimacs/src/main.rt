@@ -2,7 +2,8 @@
 // Comment lines set what the text form lacks: `c leading K`, `c budget B` and `c solver backtracking` or `counting`.
 use solvers::Backtracking;
 use solvers::BacktrackingSolver;
-use solvers::Backtracking as Counting;
+use solvers::Counting;
+use solvers::CountingSolver;
 use solving::Solver;
 use solving::Verdict;
 use std::alloc::AllocError;
