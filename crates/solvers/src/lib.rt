@@ -3,7 +3,9 @@
 mod backtrack;
 mod backtracking;
 mod close;
+mod count;
 mod decision;
+mod enter;
 mod keep;
 mod literal;
 mod outcome;
