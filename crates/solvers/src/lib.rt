@@ -4,6 +4,7 @@ mod backtrack;
 mod backtracking;
 mod close;
 mod count;
+mod counting;
 mod decision;
 mod enter;
 mod keep;
@@ -15,4 +16,5 @@ mod store;
 mod turn;
 
 pub use backtracking::Backtracking;
+pub use counting::Counting;
 pub use stack::Stack;
