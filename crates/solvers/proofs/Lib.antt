@@ -4,3 +4,5 @@ pub mod Trailing
 pub mod Looped
 pub mod Stored
 pub mod Verdicts
+pub mod Numbered
+pub mod Counted

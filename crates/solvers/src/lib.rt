@@ -3,7 +3,10 @@
 mod backtrack;
 mod backtracking;
 mod close;
+mod count;
+mod counting;
 mod decision;
+mod enter;
 mod keep;
 mod literal;
 mod outcome;
@@ -14,4 +17,6 @@ mod turn;
 
 pub use backtracking::Backtracking;
 pub use backtracking::BacktrackingSolver;
+pub use counting::Counting;
+pub use counting::CountingSolver;
 pub use stack::Stack;
