@@ -2,3 +2,4 @@
 pub mod Listed
 pub mod Ranked
 pub mod Sited
+pub mod Caught

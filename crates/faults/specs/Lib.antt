@@ -4,3 +4,5 @@ pub mod Sites
 pub mod SiteLaws
 pub mod Refusals
 pub mod Views
+pub mod Showing
+pub mod Catching
