@@ -9,7 +9,7 @@ use Rattle.vectors.specs.Vectors.{Cells}
 use Rattle.vectors.specs.Views.{cellsOf}
 use Rattle.faults.specs.Catching.{catches}
 use Rattle.faults.specs.Thinning.{FixedAsIn, thinned}
-use Rattle.faults.proofs.Caught.{catch-shown}
+use Rattle.faults.proofs.Caught.{catch-shown, shows-caught}
 use Rattle.faults.proofs.Thinned.{thinned-catches, thinned-fixed, thinned-more}
 use Rattle.faults.proofs.thinning.thin.Needs as need
 
@@ -30,6 +30,7 @@ returns c =
     record {
       tries-each-cell-in-rising-order = e;
       still-catches = caught;
+      a-setting-that-shows-the-fault-is-thinned-to-a-catch = λ a bits f d. caught (shows-caught card s v bits (c .inputs-j-end .ensures .every-card-keeps-the-rules) a f d);
       every-filling-shows-the-fault = λ t. catch-shown card s (cellsOf (c .loop-j .vector)) (caught t);
       fixed-cells-are-those-of-the-setting = subst (λ (w : Cells). FixedAsIn v w) (sym e) (thinned-fixed card s v k);
     }
