@@ -20,7 +20,8 @@ use Rattle.signal.specs.Lists.{Everywhere}
 use Rattle.signal.specs.Operations.{bitOperations}
 use Rattle.signal.specs.Ternaries.{Allows, has, ternaryOperations}
 use Rattle.signal.specs.Walks.{netValues}
-use Rattle.signal.proofs.Below.{below-head, below-tail, entry-read, output-below}
+use Rattle.card.proofs.Below.{below-head, below-tail}
+use Rattle.signal.proofs.Below.{entry-read, output-below}
 use Rattle.signal.proofs.Exactly.{exact-definite}
 use Rattle.signal.proofs.Keeping.{net-values-kept}
 use Rattle.signal.proofs.Places.{everywhere-at, everywhere-from, everywhere-read}

@@ -17,7 +17,7 @@ use Rattle.card.specs.declared.gate.Gate.{Gate}
 use Rattle.card.specs.declared.gate.Operands.{Operands}
 use Rattle.card.specs.declared.gate.Operands.the-variants.{None, One, Two}
 use Rattle.card.specs.Netlists.{Lawful, Netlist, Ordered, allBelow, nets, netsRead, pinsOf}
-use Rattle.signal.proofs.Below.{below-head, below-tail}
+use Rattle.card.proofs.Below.{below-head, below-tail}
 use Rattle.faults.specs.declared.reader.Reader.{Reader}
 use Rattle.faults.specs.Readers.{branches, gateReaders, pinReaders, readIn, readers, reads, shared}
 

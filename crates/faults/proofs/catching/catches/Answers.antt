@@ -4,7 +4,7 @@ use mathlib.Core.Bool.{true}
 use Rattle.std.proofs.shelf.Ways.{decides-at}
 use Rattle.card.specs.Netlists.{allBelow, nets}
 use Rattle.card.specs.Views.{netlistOf}
-use Rattle.signal.proofs.Below.{below-weaken}
+use Rattle.card.proofs.Below.{below-weaken}
 use Rattle.vectors.specs.Views.{cellsOf}
 use Rattle.faults.specs.Catching.{catches}
 use Rattle.faults.proofs.Caught.{catch-shown, catches-read, fixed-catches}
