@@ -16,5 +16,7 @@ mod store;
 mod turn;
 
 pub use backtracking::Backtracking;
+pub use backtracking::BacktrackingSolver;
 pub use counting::Counting;
+pub use counting::CountingSolver;
 pub use stack::Stack;
