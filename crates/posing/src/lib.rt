@@ -12,8 +12,10 @@ use solvers::Backtracking;
 use solvers::BacktrackingSolver;
 use solvers::Counting;
 use solvers::CountingSolver;
-use solving::{Solver, Verdict};
-use std::alloc::{AllocError, Global};
+use solving::Solver;
+use solving::Verdict;
+use std::alloc::AllocError;
+use std::alloc::Global;
 
 // Puts the formula to the solver: one of two variables is true, and one is false.
 fn pose<S: Solver>(solver: &mut S)
