@@ -9,10 +9,20 @@ ghost use Rattle.solvers.specs.Outcomes.{answered};
 use crate::close::close;
 use crate::decision::Decision;
 use crate::stack::Stack;
-use crate::turn::{decide, lowest_open, turn};
-use solving::{Solved, Verdict};
+use crate::turn::decide;
+use crate::turn::lowest_open;
+use crate::turn::turn;
+use solving::Solved;
+use solving::Verdict;
 
-pub fn backtrack(literals: &[i16], ends: &[usize], values: &mut [Option<bool>], trail: &mut Stack<i16>, decisions: &mut Stack<Decision>, budget: u64) -> Solved
+pub fn backtrack(
+    literals: &[i16],
+    ends: &[usize],
+    values: &mut [Option<bool>],
+    trail: &mut Stack<i16>,
+    decisions: &mut Stack<Decision>,
+    budget: u64,
+) -> Solved
     requires ends { ⌜ Ends (now literals) 0 (now ends) ⌝ }
     requires few { ⌜ length (now values) ≤ 560 ⌝ }
     requires fresh { ⌜ now trail .len ≡ 0 ⌝ }
@@ -25,20 +35,32 @@ pub fn backtrack(literals: &[i16], ends: &[usize], values: &mut [Option<bool>], 
     loop {
         if close(literals, ends, values, trail) {
             match lowest_open(values) {
-                None => return Solved { verdict: Verdict::Found, steps },
+                None => return Solved {
+                    verdict: Verdict::Found,
+                    steps,
+                },
                 Some(j) => {
                     if steps >= budget {
-                        return Solved { verdict: Verdict::Undecided, steps };
+                        return Solved {
+                            verdict: Verdict::Undecided,
+                            steps,
+                        };
                     }
                     decide(values, trail, decisions, j);
                 }
             }
         } else {
             match decisions.pop() {
-                None => return Solved { verdict: Verdict::None, steps },
+                None => return Solved {
+                    verdict: Verdict::None,
+                    steps,
+                },
                 Some(d) => {
                     if steps >= budget {
-                        return Solved { verdict: Verdict::Undecided, steps };
+                        return Solved {
+                            verdict: Verdict::Undecided,
+                            steps,
+                        };
                     }
                     turn(values, trail, d);
                 }

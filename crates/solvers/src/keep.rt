@@ -13,8 +13,11 @@ ghost use Rattle.solving.specs.Refusals.{started, appended, valued};
 ghost use Rattle.solvers.specs.Stores.{modelOf};
 use crate::literal::bit_of;
 use crate::store::Store;
-use solving::{AppendFault, StartFault, ValueFault};
-use std::alloc::{AllocError, Global};
+use solving::AppendFault;
+use solving::StartFault;
+use solving::ValueFault;
+use std::alloc::AllocError;
+use std::alloc::Global;
 
 // Not 0, and of one of so many variables.
 fn in_range(literal: i16, variables: usize) -> bool
@@ -41,7 +44,14 @@ impl Store {
         let literals = Vec::with_capacity(heap, 9216)?;
         let ends = Vec::with_capacity(heap, 9216)?;
         let values = Vec::with_capacity(heap, 560)?;
-        Ok(Store { variables: 1, leading: 1, literals, ends, values, read: false })
+        Ok(Store {
+            variables: 1,
+            leading: 1,
+            literals,
+            ends,
+            values,
+            read: false,
+        })
     }
 
     pub fn start(&mut self, variables: u16, leading: u16) -> Result<(), StartFault>

@@ -46,7 +46,8 @@ decide-requires c κs =
       inside = r .0;
       few = omega (arith, k .long, c .pre .few);
       space = omega (arith, r .1, lt, c .close .last .trail .fits, e .space, c .loop-values .inv .1, c .pre .space);
-      more = omega (arith, r .2, lc, c .loop-values .decisions .fits, c .loop-values .inv .2, c .pre .more) }
+      more = omega (arith, r .2, lc, c .loop-values .decisions .fits, c .loop-values .inv .2, c .pre .more);
+    }
 
 pub returns-in-None-pop : need.returns-in-None-pop
 returns-in-None-pop c =
@@ -74,42 +75,46 @@ turn-requires c κs =
     record {
       inside = r .1;
       few = omega (arith, k .long, c .pre .few);
-      back = omega (arith, r .0, lt, c .close .last .trail .fits) }
+      back = omega (arith, r .0, lt, c .close .last .trail .fits);
+    }
 
 pub loop-values-again : need.loop-values-again
 loop-values-again c = elim (c .if-close .came) [
-  then-close·in-Some·else-steps-budget w ↦
-    (let cs = clausesFrom (c .args .literals .now) 0 (c .args .ends .now) in
-    let e = w .if-close .ensures tt in
-    let f = w .decide .ensures in
-    let j = w .in-Some .j in
-    let h : c .loop-values .steps < c .args .budget = w .if-steps-budget .left in
-    let lt = length-take (c .close .last .trail .len) (c .close .last .trail .entries .now) in
-    let at : c .close .last .trail .len ≡ length (take (c .close .last .trail .len) (c .close .last .trail .entries .now)) = omega (arith, lt, c .close .last .trail .fits) in
-    let k = loop-grown cs (c .args .budget) (c .args .values .now) (c .loop-values .values) (c .loop-values .values) (c .close .last .values) _ _ _ (c .loop-values .steps) (c .loop-values .inv .0) (e .grown) in
-    let n = loop-decide cs (c .args .budget) (c .args .values .now) (c .loop-values .values) (c .close .last .values) _ _ (c .loop-values .steps) j (negsuc j) (record { at = c .close .last .trail .len; var = j }) k (e .closed refl) (e .whole) (sym (w .in-Some .ensures tt .is-the-lowest)) h refl refl at refl in
-    (kept-as cs (c .args .budget) (c .args .values .now) _ (c .if-close .values) _ _ _ _ _ (c .loop-values .steps + 1)
-       (w .values-is ∙ f .values)
-       (ap (λ (q : Stack ℤ). take (q .len) (q .entries .now)) (w .trail-is) ∙ f .trail)
-       (ap (λ (q : Stack Decision). take (q .len) (q .entries .now)) (w .decisions-is) ∙ f .decisions)
-       (add-one (c .loop-values .steps)) n,
-     ap (λ (q : Stack ℤ). length (q .entries .now)) (w .trail-is) ∙ f .space ∙ e .space ∙ c .loop-values .inv .1,
-     ap (λ (q : Stack Decision). length (q .entries .now)) (w .decisions-is) ∙ f .kept ∙ c .loop-values .inv .2,
-     omega (arith, h)))
+  | then-close·in-Some·else-steps-budget w ↦
+      (let cs = clausesFrom (c .args .literals .now) 0 (c .args .ends .now) in
+      let e = w .if-close .ensures tt in
+      let f = w .decide .ensures in
+      let j = w .in-Some .j in
+      let h : c .loop-values .steps < c .args .budget = w .if-steps-budget .left in
+      let lt = length-take (c .close .last .trail .len) (c .close .last .trail .entries .now) in
+      let at : c .close .last .trail .len ≡ length (take (c .close .last .trail .len) (c .close .last .trail .entries .now)) = omega (arith, lt, c .close .last .trail .fits) in
+      let k = loop-grown cs (c .args .budget) (c .args .values .now) (c .loop-values .values) (c .loop-values .values) (c .close .last .values) _ _ _ (c .loop-values .steps) (c .loop-values .inv .0) (e .grown) in
+      let n = loop-decide cs (c .args .budget) (c .args .values .now) (c .loop-values .values) (c .close .last .values) _ _ (c .loop-values .steps) j (negsuc j) (record { at = c .close .last .trail .len; var = j }) k (e .closed refl) (e .whole) (sym (w .in-Some .ensures tt .is-the-lowest)) h refl refl at refl in (
+        kept-as cs (c .args .budget) (c .args .values .now) _ (c .if-close .values) _ _ _ _ _ (c .loop-values .steps + 1)
+            (w .values-is ∙ f .values)
+            (ap (λ (q : Stack ℤ). take (q .len) (q .entries .now)) (w .trail-is) ∙ f .trail)
+            (ap (λ (q : Stack Decision). take (q .len) (q .entries .now)) (w .decisions-is) ∙ f .decisions)
+            (add-one (c .loop-values .steps)) n,
+        ap (λ (q : Stack ℤ). length (q .entries .now)) (w .trail-is) ∙ f .space ∙ e .space ∙ c .loop-values .inv .1,
+        ap (λ (q : Stack Decision). length (q .entries .now)) (w .decisions-is) ∙ f .kept ∙ c .loop-values .inv .2,
+        omega (arith, h),
+      ))
   | else-close·in-Some-pop·else-steps-budget-2 w ↦
-    (let cs = clausesFrom (c .args .literals .now) 0 (c .args .ends .now) in
-    let e = w .if-close .ensures tt in
-    let f = w .turn .ensures in
-    let d = w .in-Some-pop .d in
-    let h : c .loop-values .steps < c .args .budget = w .if-steps-budget-2 .left in
-    let p : pred (d .var + 1) ≡ d .var = omega arith in
-    let k = loop-grown cs (c .args .budget) (c .args .values .now) (c .loop-values .values) (c .loop-values .values) (c .close .last .values) _ _ _ (c .loop-values .steps) (c .loop-values .inv .0) (e .grown) in
-    let n = loop-turn cs (c .args .budget) (c .args .values .now) (c .loop-values .values) (c .close .last .values) _ _ _ d (c .loop-values .steps) (pos (d .var + 1)) k (e .whole) (w .in-Some-pop .ensures tt .takes-the-latest) h p refl in
-    (kept-as cs (c .args .budget) (c .args .values .now) _ (c .if-close .values) _ _ _ _ _ (c .loop-values .steps + 1)
-       (w .values-is ∙ f .values)
-       (ap (λ (q : Stack ℤ). take (q .len) (q .entries .now)) (w .trail-is) ∙ f .trail)
-       (ap (λ (q : Stack Decision). take (q .len) (q .entries .now)) (w .decisions-is))
-       (add-one (c .loop-values .steps)) n,
-     ap (λ (q : Stack ℤ). length (q .entries .now)) (w .trail-is) ∙ f .space ∙ e .space ∙ c .loop-values .inv .1,
-     ap (λ (q : Stack Decision). length (q .entries .now)) (w .decisions-is) ∙ w .pop .ensures .keeps-its-room ∙ c .loop-values .inv .2,
-     omega (arith, h))) ]
+      (let cs = clausesFrom (c .args .literals .now) 0 (c .args .ends .now) in
+      let e = w .if-close .ensures tt in
+      let f = w .turn .ensures in
+      let d = w .in-Some-pop .d in
+      let h : c .loop-values .steps < c .args .budget = w .if-steps-budget-2 .left in
+      let p : pred (d .var + 1) ≡ d .var = omega arith in
+      let k = loop-grown cs (c .args .budget) (c .args .values .now) (c .loop-values .values) (c .loop-values .values) (c .close .last .values) _ _ _ (c .loop-values .steps) (c .loop-values .inv .0) (e .grown) in
+      let n = loop-turn cs (c .args .budget) (c .args .values .now) (c .loop-values .values) (c .close .last .values) _ _ _ d (c .loop-values .steps) (pos (d .var + 1)) k (e .whole) (w .in-Some-pop .ensures tt .takes-the-latest) h p refl in (
+        kept-as cs (c .args .budget) (c .args .values .now) _ (c .if-close .values) _ _ _ _ _ (c .loop-values .steps + 1)
+            (w .values-is ∙ f .values)
+            (ap (λ (q : Stack ℤ). take (q .len) (q .entries .now)) (w .trail-is) ∙ f .trail)
+            (ap (λ (q : Stack Decision). take (q .len) (q .entries .now)) (w .decisions-is))
+            (add-one (c .loop-values .steps)) n,
+        ap (λ (q : Stack ℤ). length (q .entries .now)) (w .trail-is) ∙ f .space ∙ e .space ∙ c .loop-values .inv .1,
+        ap (λ (q : Stack Decision). length (q .entries .now)) (w .decisions-is) ∙ w .pop .ensures .keeps-its-room ∙ c .loop-values .inv .2,
+        omega (arith, h),
+      ))
+]
