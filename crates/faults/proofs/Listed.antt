@@ -46,13 +46,13 @@ pub counted-more : (counts : List ℕ) (list : List Reader) (i m x : ℕ) (d : R
     → ((net : ℕ) → net < 256 → getD counts net 0 ≡ readIn (take i list) net) → (net : ℕ) → net < 256 → getD (set counts m x) net 0 ≡ readIn (take (i + 1) list) net
 counted-more counts list i m x d h len lm e s inv net l =
     ⊎-elim
-      (λ q. let here : getD (set counts m x) net 0 ≡ x = ap (λ n. getD (set counts m x) n 0) q ∙ getD-set-same counts m x 0 (omega arith) in
-            let more = countBy-more-yes (reads net) list i d h (eq-eqb net (getD list i d .net) (q ∙ e)) in
-            let old : getD counts m 0 ≡ readIn (take i list) net = ap (λ n. getD counts n 0) (sym q) ∙ inv net l in
-            here ∙ s ∙ ap (λ n. n + 1) old ∙ sym more)
-      (λ q. let more = countBy-more-no (reads net) list i d h (ne-eqb net (getD list i d .net) (λ z. q (z ∙ sym e))) in
-            getD-set-other counts m net x 0 q ∙ inv net l ∙ sym more)
-      (cases-eq net m)
+    (λ q. let here : getD (set counts m x) net 0 ≡ x = ap (λ n. getD (set counts m x) n 0) q ∙ getD-set-same counts m x 0 (omega arith) in
+    let more = countBy-more-yes (reads net) list i d h (eq-eqb net (getD list i d .net) (q ∙ e)) in
+    let old : getD counts m 0 ≡ readIn (take i list) net = ap (λ n. getD counts n 0) (sym q) ∙ inv net l in
+    here ∙ s ∙ ap (λ n. n + 1) old ∙ sym more)
+    (λ q. let more = countBy-more-no (reads net) list i d h (ne-eqb net (getD list i d .net) (λ z. q (z ∙ sym e))) in
+    getD-set-other counts m net x 0 q ∙ inv net l ∙ sym more)
+    (cases-eq net m)
 
 -- ---- the readers that share their net, one reader more
 
@@ -115,8 +115,8 @@ gates-on-card : (j : ℕ) (gs : List Gate) → j + length gs ≤ 256 → Ordered
 gates-on-card j [] h o = tt
 gates-on-card j (g ∷ gs) h o =
     all-append OnCard (pinReaders j 0 (pinsOf g)) (gateReaders (suc j) gs)
-      (pins-on-card j j 0 (pinsOf g) (omega arith) (ap (λ m. allBelow m (pinsOf g)) (sym (add-zero j)) ∙ o 0 g (omega arith)))
-      (gates-on-card (suc j) gs (omega arith) (ordered-rest j g gs o))
+    (pins-on-card j j 0 (pinsOf g) (omega arith) (ap (λ m. allBelow m (pinsOf g)) (sym (add-zero j)) ∙ o 0 g (omega arith)))
+    (gates-on-card (suc j) gs (omega arith) (ordered-rest j g gs o))
 
 -- the same of an equal list
 pub at-same : (list all : List Reader) → list ≡ all → ((i : ℕ) (d : Reader) → i < length all → getD all i d .net < 256) → (i : ℕ) (d : Reader) → i < length list → getD list i d .net < 256

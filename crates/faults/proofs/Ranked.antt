@@ -23,8 +23,8 @@ module _ {X : Type 0} (R : X → X → Type 0) where
   rising-kept p [] a = tt
   rising-kept p (x ∷ xs) a =
       cond-both (p x) (x ∷ kept-by p xs) (kept-by p xs) Rising
-        (λ e. (all-kept-by p (R x) xs (a .0), rising-kept p xs (a .1)))
-        (λ e. rising-kept p xs (a .1))
+      (λ e. (all-kept-by p (R x) xs (a .0), rising-kept p xs (a .1)))
+      (λ e. rising-kept p xs (a .1))
 
   all-nth : (P : X → Type 0) (xs : List X) (i : ℕ) (y : X) → All P xs → nth xs i ≡ Some y → P y
   all-nth P [] i y a e = absurd (let z : _≡_ {A = ℕ} 0 1 = cc in omega arith)

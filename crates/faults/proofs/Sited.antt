@@ -105,7 +105,7 @@ gates-have j (g ∷ gs) zero p net r =
     in-append-left (pinReaders j 0 (pinsOf g)) (gateReaders (suc j) gs) _ here
 gates-have j (g ∷ gs) (suc i) p net r =
     in-append-right (pinReaders j 0 (pinsOf g)) (gateReaders (suc j) gs) _
-      (subst (λ (m : ℕ). In (gateReaders (suc j) gs) (record { line = Pin m p; net = net })) (suc-add j i ∙ sym (add-suc j i)) (gates-have (suc j) gs i p net r))
+    (subst (λ (m : ℕ). In (gateReaders (suc j) gs) (record { line = Pin m p; net = net })) (suc-add j i ∙ sym (add-suc j i)) (gates-have (suc j) gs i p net r))
 
 -- what a reader of the list is
 abbrev IsPinOf : ℕ → List Gate → Reader → Type 0
@@ -116,20 +116,20 @@ pins-are j p [] = tt
 pins-are j p (x ∷ xs) = (
   (0, refl, ap (Pin j) (sym (add-zero p))),
   all-weaker (λ r. (q : ℕ) × (nth xs q ≡ Some (r .net)) × (r .line ≡ Pin j (suc p + q))) (λ r. (q : ℕ) × (nth (x ∷ xs) q ≡ Some (r .net)) × (r .line ≡ Pin j (p + q)))
-    (λ r a. (suc (a .0), a .1, a .2 ∙ ap (Pin j) (suc-add p (a .0) ∙ sym (add-suc p (a .0)))))
-    (pinReaders j (suc p) xs) (pins-are j (suc p) xs),
+      (λ r a. (suc (a .0), a .1, a .2 ∙ ap (Pin j) (suc-add p (a .0) ∙ sym (add-suc p (a .0)))))
+      (pinReaders j (suc p) xs) (pins-are j (suc p) xs),
 )
 
 gates-are : (j : ℕ) (gs : List Gate) → All (IsPinOf j gs) (gateReaders j gs)
 gates-are j [] = tt
 gates-are j (g ∷ gs) =
     all-append (IsPinOf j (g ∷ gs)) (pinReaders j 0 (pinsOf g)) (gateReaders (suc j) gs)
-      (all-weaker (λ r. (q : ℕ) × (nth (pinsOf g) q ≡ Some (r .net)) × (r .line ≡ Pin j (0 + q))) (IsPinOf j (g ∷ gs))
-        (λ r a. (0, a .0, (g, refl, a .1), a .2 ∙ ap₂ Pin (sym (add-zero j)) (omega arith)))
-        (pinReaders j 0 (pinsOf g)) (pins-are j 0 (pinsOf g)))
-      (all-weaker (IsPinOf (suc j) gs) (IsPinOf j (g ∷ gs))
-        (λ r a. (suc (a .0), a .1, a .2, a .3 ∙ ap (λ (m : ℕ). Pin m (a .1)) (suc-add j (a .0) ∙ sym (add-suc j (a .0)))))
-        (gateReaders (suc j) gs) (gates-are (suc j) gs))
+    (all-weaker (λ r. (q : ℕ) × (nth (pinsOf g) q ≡ Some (r .net)) × (r .line ≡ Pin j (0 + q))) (IsPinOf j (g ∷ gs))
+    (λ r a. (0, a .0, (g, refl, a .1), a .2 ∙ ap₂ Pin (sym (add-zero j)) (omega arith)))
+    (pinReaders j 0 (pinsOf g)) (pins-are j 0 (pinsOf g)))
+    (all-weaker (IsPinOf (suc j) gs) (IsPinOf j (g ∷ gs))
+    (λ r a. (suc (a .0), a .1, a .2, a .3 ∙ ap (λ (m : ℕ). Pin m (a .1)) (suc-add j (a .0) ∙ sym (add-suc j (a .0)))))
+    (gateReaders (suc j) gs) (gates-are (suc j) gs))
 
 branches-are : (c : Netlist) → All (IsPinOf (c .inputs) (c .gates)) (branches c)
 branches-are c = all-kept-by (λ r. leb 2 (readCount c (r .net))) (IsPinOf (c .inputs) (c .gates)) (readers c) (gates-are (c .inputs) (c .gates))
@@ -202,7 +202,7 @@ module _ (c : Netlist) where
   branch-read bs site k r e q h l g =
       line-past-nets site (omega arith)
       ∙ map-nth (λ s. s .line) (branches c) (site - n) r
-          (ap₂ nth (sym e) (ap (λ (m : ℕ). site - m) (sym q)) ∙ nth-getD bs (site - k) r l ∙ ap Some (sym g))
+      (ap₂ nth (sym e) (ap (λ (m : ℕ). site - m) (sym q)) ∙ nth-getD bs (site - k) r l ∙ ap Some (sym g))
 
   pub few-sites : Lawful c → siteCount c ≤ 766
   few-sites r = let b = length-branches c in let s = r .some-input in let f = r .nets-fit in omega arith
@@ -212,20 +212,20 @@ module _ (c : Netlist) where
   pub in-order : (i j : ℕ) (l m : Line) → i < j → lineOf c i ≡ Some l → lineOf c j ≡ Some m → Before l m
   in-order i j l m h p q = ⊎-elim
       (λ (jn : j < nets c).
-        let a : Net i ≡ l = let e = line-of-net i (omega arith) in cc in
-        let b : Net j ≡ m = let e = line-of-net j jn in cc in
-        subst (λ (x : Line). Before x m) a (subst (λ (x : Line). Before (Net i) x) b h))
+      let a : Net i ≡ l = let e = line-of-net i (omega arith) in cc in
+      let b : Net j ≡ m = let e = line-of-net j jn in cc in
+      subst (λ (x : Line). Before x m) a (subst (λ (x : Line). Before (Net i) x) b h))
       (λ (nj : nets c ≤ j). let s = branch-at j m nj q in ⊎-elim
-        (λ (i-n : i < nets c).
-          let a : Net i ≡ l = let e = line-of-net i i-n in cc in
-          let t = all-nth (IsPinOf (c .inputs) (c .gates)) (branches c) (j - n) (s .0) (branches-are c) (s .1) in
-          let b : Pin (c .inputs + t .0) (t .1) ≡ m = sym (t .3) ∙ s .2 in
-          subst (λ (x : Line). Before x m) a (subst (λ (x : Line). Before (Net i) x) b tt))
-        (λ (ni : nets c ≤ i).
-          let r = branch-at i l ni p in
-          let f = rising-at First (branches c) (i - n) (j - n) (r .0) (s .0) (rising-branches c) (omega arith) (r .1) (s .1) in
-          subst (λ (x : Line). Before x m) (r .2) (subst (λ (x : Line). Before (r .0 .line) x) (s .2) f))
-        (cases-lt i (nets c)))
+      (λ (i-n : i < nets c).
+      let a : Net i ≡ l = let e = line-of-net i i-n in cc in
+      let t = all-nth (IsPinOf (c .inputs) (c .gates)) (branches c) (j - n) (s .0) (branches-are c) (s .1) in
+      let b : Pin (c .inputs + t .0) (t .1) ≡ m = sym (t .3) ∙ s .2 in
+      subst (λ (x : Line). Before x m) a (subst (λ (x : Line). Before (Net i) x) b tt))
+      (λ (ni : nets c ≤ i).
+      let r = branch-at i l ni p in
+      let f = rising-at First (branches c) (i - n) (j - n) (r .0) (s .0) (rising-branches c) (omega arith) (r .1) (s .1) in
+      subst (λ (x : Line). Before x m) (r .2) (subst (λ (x : Line). Before (r .0 .line) x) (s .2) f))
+      (cases-lt i (nets c)))
       (cases-lt j (nets c))
 
   pub irreflexive : (l : Line) → Before l l → ⊥
@@ -249,7 +249,9 @@ module _ (c : Netlist) where
       let s = branch-at j l h e in
       let t = all-nth (IsPinOf (c .inputs) (c .gates)) (branches c) (j - n) (s .0) (branches-are c) (s .1) in
       record {
-        gate = t .0; pin = t .1; net = s .0 .net;
+        gate = t .0;
+        pin = t .1;
+        net = s .0 .net;
         reads = record { gate = t .2 .0; is-gate = t .2 .1; is-pin = t .2 .2 };
         is = sym (s .2) ∙ t .3;
       }
@@ -265,16 +267,16 @@ module _ (c : Netlist) where
   site-shared i p net r (j, e) = ⊎-elim
       (λ a. absurd (let q = line-of-net j a in let z : _≡_ {A = ℕ} 0 1 = cc in omega arith))
       (λ a.
-        let s = branch-at j (Pin (c .inputs + i) p) a e in
-        let t = all-nth (IsPinOf (c .inputs) (c .gates)) (branches c) (j - n) (s .0) (branches-are c) (s .1) in
-        let u = leb-true 2 (readCount c (s .0 .net)) (all-nth (λ x. leb 2 (readCount c (x .net)) ≡ true) (branches c) (j - n) (s .0) (kept-by-passes (λ x. leb 2 (readCount c (x .net))) (readers c)) (s .1)) in
-        let same : Pin (c .inputs + t .0) (t .1) ≡ Pin (c .inputs + i) p = sym (t .3) ∙ s .2 in
-        let gates : c .inputs + t .0 ≡ c .inputs + i = cc in
-        let pins : t .1 ≡ p = cc in
-        let gi : t .0 ≡ i = omega arith in
-        let g : t .2 .0 ≡ r .gate = let x = t .2 .1 in let y = r .is-gate in let z : nth (c .gates) (t .0) ≡ nth (c .gates) i = ap (nth (c .gates)) gi in cc in
-        let nn : s .0 .net ≡ net = let x = t .2 .2 in let y = r .is-pin in let z : nth (pinsOf (t .2 .0)) (t .1) ≡ nth (pinsOf (r .gate)) p = ap₂ (λ (w : Gate) (m : ℕ). nth (pinsOf w) m) g pins in cc in
-        subst (λ (m : ℕ). 2 ≤ readCount c m) nn u)
+      let s = branch-at j (Pin (c .inputs + i) p) a e in
+      let t = all-nth (IsPinOf (c .inputs) (c .gates)) (branches c) (j - n) (s .0) (branches-are c) (s .1) in
+      let u = leb-true 2 (readCount c (s .0 .net)) (all-nth (λ x. leb 2 (readCount c (x .net)) ≡ true) (branches c) (j - n) (s .0) (kept-by-passes (λ x. leb 2 (readCount c (x .net))) (readers c)) (s .1)) in
+      let same : Pin (c .inputs + t .0) (t .1) ≡ Pin (c .inputs + i) p = sym (t .3) ∙ s .2 in
+      let gates : c .inputs + t .0 ≡ c .inputs + i = cc in
+      let pins : t .1 ≡ p = cc in
+      let gi : t .0 ≡ i = omega arith in
+      let g : t .2 .0 ≡ r .gate = let x = t .2 .1 in let y = r .is-gate in let z : nth (c .gates) (t .0) ≡ nth (c .gates) i = ap (nth (c .gates)) gi in cc in
+      let nn : s .0 .net ≡ net = let x = t .2 .2 in let y = r .is-pin in let z : nth (pinsOf (t .2 .0)) (t .1) ≡ nth (pinsOf (r .gate)) p = ap₂ (λ (w : Gate) (m : ℕ). nth (pinsOf w) m) g pins in cc in
+      subst (λ (m : ℕ). 2 ≤ readCount c m) nn u)
       (cases-lt j n)
 
 -- ---- faults

@@ -24,10 +24,19 @@ fn push_pins(list: &mut Vec<Reader>, net: u16, gate: Gate) -> Result<(), AllocEr
 {
     match gate.operands {
         Operands::None => {}
-        Operands::One(only) => list.push(Reader { line: Line::Pin(net, 0), net: only })?,
+        Operands::One(only) => list.push(Reader {
+            line: Line::Pin(net, 0),
+            net: only,
+        })?,
         Operands::Two(first, second) => {
-            list.push(Reader { line: Line::Pin(net, 0), net: first })?;
-            list.push(Reader { line: Line::Pin(net, 1), net: second })?;
+            list.push(Reader {
+                line: Line::Pin(net, 0),
+                net: first,
+            })?;
+            list.push(Reader {
+                line: Line::Pin(net, 1),
+                net: second,
+            })?;
         }
     }
     Ok(())
@@ -60,7 +69,11 @@ pub(crate) fn count_reads(list: &[Reader]) -> [usize; 256]
 }
 
 // The readers whose net has two readers or more.
-pub(crate) fn share(heap: Global, list: &[Reader], counts: &[usize; 256]) -> Result<Vec<Reader>, AllocError>
+pub(crate) fn share(
+    heap: Global,
+    list: &[Reader],
+    counts: &[usize; 256],
+) -> Result<Vec<Reader>, AllocError>
     requires read_nets_of_a_card { ⌜ ((i : ℕ) (d : Read) → i < length (now list) → getD (now list) i d .net < 256) ⌝ }
     requires counts_are_the_lists { ⌜ ((net : ℕ) → net < 256 → getD (now counts) net 0 ≡ readIn (now list) net) ⌝ }
     ensures keeps_those_that_share { λ r. ⌜ made r (λ found. vec-items found ≡ shared (now (list .entry)) (now (list .entry))) ⌝ }

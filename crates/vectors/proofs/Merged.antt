@@ -35,10 +35,10 @@ bit-xor a b j = ap (λ (x : ℕ). eqb (x % 2) 1) (xor-shr a b j) ∙ xor-digit (
 pub some-bit : (n : ℕ) → (n ≡ 0 → ⊥) → (j : ℕ) × (bitAt n j ≡ true)
 some-bit = bin-ind (λ n. (n ≡ 0 → ⊥) → (j : ℕ) × (bitAt n j ≡ true)) (λ h. absurd (h refl)) (λ n ih h.
     ⊎-elim {C = (j : ℕ) × (bitAt n j ≡ true)}
-      (λ e. (0, bit-lowest n ∙ eq-eqb (n % 2) 1 e))
-      (λ e. let l = mod-below n 2 (omega arith) in let s = div-add-mod' n 2 in
-            let r = ih (λ z. h (omega arith)) in (suc (r .0), bit-suc n (r .0) ∙ r .1))
-      (cases-eq (n % 2) 1))
+    (λ e. (0, bit-lowest n ∙ eq-eqb (n % 2) 1 e))
+    (λ e. let l = mod-below n 2 (omega arith) in let s = div-add-mod' n 2 in
+    let r = ih (λ z. h (omega arith)) in (suc (r .0), bit-suc n (r .0) ∙ r .1))
+    (cases-eq (n % 2) 1))
 
 -- ---- two bits and their difference
 
@@ -115,9 +115,9 @@ module _ (v w : Cells) where
       λ f. record {
         one-for-each = f .0 .one-for-each;
         agrees = λ j h t. ⊎-elim
-          (λ a. f .0 .agrees j h a ∙ sym (value-of-one j a))
-          (λ a. f .1 .agrees j h a ∙ sym (value-of-other j a))
-          (or-cases (bitAt (v .care) j) (bitAt (w .care) j) (sym (bit-or (v .care) (w .care) j) ∙ t));
+            (λ a. f .0 .agrees j h a ∙ sym (value-of-one j a))
+            (λ a. f .1 .agrees j h a ∙ sym (value-of-other j a))
+            (or-cases (bitAt (v .care) j) (bitAt (w .care) j) (sym (bit-or (v .care) (w .care) j) ∙ t));
       },
     )
 

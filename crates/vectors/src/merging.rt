@@ -19,5 +19,8 @@ pub fn merged(a: &Vector, b: &Vector) -> Result<Vector, MergeFault>
     if a.care & b.care & (a.value ^ b.value) != 0 {
         return Err(MergeFault::OppositeBits);
     }
-    Ok(Vector { care: a.care | b.care, value: a.value | b.value })
+    Ok(Vector {
+        care: a.care | b.care,
+        value: a.value | b.value,
+    })
 }

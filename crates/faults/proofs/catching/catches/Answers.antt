@@ -25,8 +25,8 @@ returns c =
     let rules = c .outputs .ensures .every-card-keeps-the-rules in
     let e : r ≡ catches card s v =
     catches-read card s v (c .walk .last .nets) (c .walk-2 .last .nets) _ _ (c .outputs .result .now) r rules (c .outputs .ensures .are-the-outputs)
-      (c .enter .ensures .enters-the-cells) (c .enter-2 .ensures .enters-the-cells) (c .walk .ensures .every-net-has-its-value) (c .walk-2 .ensures .every-net-has-its-value)
-      (c .opposite-somewhere .ensures .says-whether-some-are-opposite) in
+    (c .enter .ensures .enters-the-cells) (c .enter-2 .ensures .enters-the-cells) (c .walk .ensures .every-net-has-its-value) (c .walk-2 .ensures .every-net-has-its-value)
+    (c .opposite-somewhere .ensures .says-whether-some-are-opposite) in
     record {
       says-whether-good-and-faulty-are-opposite-at-an-output = e;
       a-catch-is-shown-by-every-filling-at-one-output = λ t. catch-shown card s v (sym e ∙ t);

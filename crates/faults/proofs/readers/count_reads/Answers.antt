@@ -27,9 +27,10 @@ add-counts c =
 pub loop-reader-again : need.loop-reader-again
 loop-reader-again c =
     let i = c .loop-reader .reader-index in
-    let list = c .args .list .now in
-    (length-set (c .loop-reader .counts) _ _ ∙ c .loop-reader .inv .0,
-     counted-more (c .loop-reader .counts) list i _ _ _ (c .loop-reader-test .taken) (c .loop-reader .inv .0) (c .pre .read-nets-of-a-card i _ (c .loop-reader-test .taken)) refl refl (c .loop-reader .inv .1))
+    let list = c .args .list .now in (
+      length-set (c .loop-reader .counts) _ _ ∙ c .loop-reader .inv .0,
+      counted-more (c .loop-reader .counts) list i _ _ _ (c .loop-reader-test .taken) (c .loop-reader .inv .0) (c .pre .read-nets-of-a-card i _ (c .loop-reader-test .taken)) refl refl (c .loop-reader .inv .1),
+    )
 
 pub returns : need.returns
 returns c =

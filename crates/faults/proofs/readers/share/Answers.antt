@@ -18,8 +18,8 @@ loop-reader-again c =
     let on = c .pre .read-nets-of-a-card i d (c .loop-reader-test .taken) in
     let e = c .pre .counts-are-the-lists (getD list i d .net) on in
     elim (c .if-counts-reader-ge2 .came) [
-      then-counts-reader-ge2·in-Continue-push w ↦ let t = w .if-counts-reader-ge2 .taken in shared-more-yes list list (vec-items (c .loop-reader .found)) _ i (getD list i d) d (c .loop-reader-test .taken) refl (omega arith) (ap vec-items (w .found-is) ∙ w .in-Continue-push .ensures tt .items) (c .loop-reader .inv)
-    | else-counts-reader-ge2 w ↦ let t = w .if-counts-reader-ge2 .left in shared-more-no list list _ i (getD list i d) d (c .loop-reader-test .taken) refl (omega arith) (ap vec-items (w .found-is) ∙ c .loop-reader .inv)
+      | then-counts-reader-ge2·in-Continue-push w ↦ let t = w .if-counts-reader-ge2 .taken in shared-more-yes list list (vec-items (c .loop-reader .found)) _ i (getD list i d) d (c .loop-reader-test .taken) refl (omega arith) (ap vec-items (w .found-is) ∙ w .in-Continue-push .ensures tt .items) (c .loop-reader .inv)
+      | else-counts-reader-ge2 w ↦ let t = w .if-counts-reader-ge2 .left in shared-more-no list list _ i (getD list i d) d (c .loop-reader-test .taken) refl (omega arith) (ap vec-items (w .found-is) ∙ c .loop-reader .inv)
     ]
 
 pub returns : need.returns

@@ -16,7 +16,7 @@ use Rattle.faults.proofs.thinning.thin.Needs as need
 pub loop-j-again : need.loop-j-again
 loop-j-again c =
     thinned-more (netlistOf (c .args .card .now)) (c .args .stuck) (cellsOf (c .args .setting .now)) (cellsOf (c .loop-j .vector)) (cellsOf (c .try-cell .last .vector)) (c .loop-j .j)
-      (c .loop-j .inv) (c .try-cell .ensures .frees-the-cell-if-still-caught)
+    (c .loop-j .inv) (c .try-cell .ensures .frees-the-cell-if-still-caught)
 
 pub returns : need.returns
 returns c =
