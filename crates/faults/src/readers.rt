@@ -55,8 +55,11 @@ pub(crate) fn list_readers(heap: Global, card: &Card) -> Result<Vec<Reader>, All
     Ok(list)
 }
 
+// A number for each net that a card can have.
+pub(crate) type Counts = [usize; 256];
+
 // How many of the readers read each net.
-pub(crate) fn count_reads(list: &[Reader]) -> [usize; 256]
+pub(crate) fn count_reads(list: &[Reader]) -> Counts
     requires read_nets_of_a_card { ⌜ ((i : ℕ) (d : Read) → i < length (now list) → getD (now list) i d .net < 256) ⌝ }
     ensures one_count_for_each_net { λ r. ⌜ length r ≡ 256 ⌝ }
     ensures counts_the_readers { λ r. ⌜ ((net : ℕ) → net < 256 → getD r net 0 ≡ readIn (now (list .entry)) net) ⌝ }
