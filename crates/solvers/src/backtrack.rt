@@ -32,40 +32,22 @@ pub fn backtrack(
     ensures answers_as_defined { λ r. ⌜ backtracking lowest (clausesFrom (now (literals .entry)) 0 (now (ends .entry))) budget (now (values .entry)) ≡ answered r (now (values .exit)) ⌝ }
 {
     let mut steps = 0;
-    loop {
+    let verdict = loop {
+        let spent = steps >= budget;
         if close(literals, ends, values, trail) {
             match lowest_open(values) {
-                None => return Solved {
-                    verdict: Verdict::Found,
-                    steps,
-                },
-                Some(j) => {
-                    if steps >= budget {
-                        return Solved {
-                            verdict: Verdict::Undecided,
-                            steps,
-                        };
-                    }
-                    decide(values, trail, decisions, j);
-                }
+                None => break Verdict::Found,
+                Some(_) if spent => break Verdict::Undecided,
+                Some(j) => decide(values, trail, decisions, j),
             }
         } else {
             match decisions.pop() {
-                None => return Solved {
-                    verdict: Verdict::None,
-                    steps,
-                },
-                Some(d) => {
-                    if steps >= budget {
-                        return Solved {
-                            verdict: Verdict::Undecided,
-                            steps,
-                        };
-                    }
-                    turn(values, trail, d);
-                }
+                None => break Verdict::None,
+                Some(_) if spent => break Verdict::Undecided,
+                Some(d) => turn(values, trail, d),
             }
         }
         steps += 1;
-    }
+    };
+    Solved { verdict, steps }
 }

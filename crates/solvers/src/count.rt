@@ -56,30 +56,20 @@ pub fn count(
 {
     let all = power(leading);
     let mut steps = 0;
-    loop {
+    let verdict = loop {
         if steps >= all {
-            return Solved {
-                verdict: Verdict::None,
-                steps,
-            };
+            break Verdict::None;
         }
         if steps >= budget {
-            return Solved {
-                verdict: Verdict::Undecided,
-                steps,
-            };
+            break Verdict::Undecided;
         }
-        match try_setting(literals, ends, values, places, leading, steps) {
-            Verdict::None => {}
-            Verdict::Found => return Solved {
-                verdict: Verdict::Found,
-                steps: steps + 1,
-            },
-            Verdict::Undecided => return Solved {
-                verdict: Verdict::Undecided,
-                steps: steps + 1,
-            },
-        }
+        let verdict = try_setting(literals, ends, values, places, leading, steps);
         steps += 1;
-    }
+        match verdict {
+            Verdict::None => {}
+            Verdict::Found => break Verdict::Found,
+            Verdict::Undecided => break Verdict::Undecided,
+        }
+    };
+    Solved { verdict, steps }
 }

@@ -5,7 +5,7 @@ use mir.Val.{SFits}
 use mir.Syntax.{w16}
 use Rattle.std.proofs.shelf.Signed.{toZ-ofZ}
 use Rattle.solvers.proofs.Stored.{range-falls, range-goes, range-ends}
-use Rattle.solvers.proofs.keep.all_in_range.Needs as need
+use Rattle.solvers.proofs.append.all_in_range.Needs as need
 
 pub returns-then-not-in-range : need.returns-then-not-in-range
 returns-then-not-in-range c =
