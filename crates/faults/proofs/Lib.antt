@@ -3,4 +3,5 @@ pub mod Listed
 pub mod Ranked
 pub mod Sited
 pub mod Caught
+pub mod Refined
 pub mod Thinned

@@ -11,6 +11,7 @@ use lib.Dec.{eqb}
 use Rattle.signal.specs.Operations.{differ}
 use Rattle.std.proofs.shelf.Bits.{div-add-mod', mod-below}
 use Rattle.std.proofs.shelf.Tests.{and-from, and-parts, both-ways, cases-bool, cases-eq, eq-eqb, false≢true, or-cases, or-from, or-left, or-parts, or-right, true≢false}
+use Rattle.vectors.specs.Extending.{Extends}
 use Rattle.vectors.specs.Merging.{FilledByBoth, Opposed, mergeable, union}
 use Rattle.vectors.specs.Vectors.{Cells, Fills, bitAt, holding}
 use Rattle.vectors.proofs.Bits.{bit-and, bit-lowest, bit-of-zero, bit-or, bit-suc}
@@ -105,6 +106,9 @@ module _ (v w : Cells) where
 
     care-from-other : (j : ℕ) → bitAt (w .care) j ≡ true → bitAt (union v w .care) j ≡ true
     care-from-other j t = bit-or (v .care) (w .care) j ∙ or-right (bitAt (v .care) j) (bitAt (w .care) j) t
+
+    pub union-extends : Extends (union v w) v × Extends (union v w) w
+    union-extends = (record { fixes = care-from-one; same-bit = value-of-one }, record { fixes = care-from-other; same-bit = value-of-other })
 
     pub union-filled : FilledByBoth v w (union v w)
     union-filled k bits = (
