@@ -1,7 +1,7 @@
 -- A vector that extends another catches what the other catches: more fixed cells leave every net the same or fewer bits.
-use mathlib.Core.Path.{_≡_, refl, sym, _∙_, ap, ap₂, subst}
+use mathlib.Core.Path.{_≡_, refl, ap₂, subst}
 use mathlib.Core.List.{List, [], _∷_, _++_}
-use mathlib.Core.Bool.{Bool, true, false, not}
+use mathlib.Core.Bool.{Bool, true, false}
 use Prim.Native.Nat.{ℕ, zero, suc}
 use lib.ListN.{getD}
 use Rattle.std.specs.declared.option.Option.{Option}
@@ -23,8 +23,8 @@ use Rattle.signal.specs.Walks.{entered, gateNet, netValues, pinValues, sticksNe
 use Rattle.signal.proofs.Places.{everywhere-push, everywhere-read}
 use Rattle.signal.proofs.Unknowns.{ternary-exact}
 use Rattle.vectors.specs.Extending.{Extends}
-use Rattle.vectors.specs.Vectors.{Cells, bitAt, cellAt, cellOf, cellsFrom, start}
-use Rattle.faults.specs.Catching.{catches, opposite, oppositeAt, oppositeSomewhere, ternaryNets}
+use Rattle.vectors.specs.Vectors.{Cells, bitAt, cellOf, cellsFrom, start}
+use Rattle.faults.specs.Catching.{catches, opposite, ternaryNets}
 use Rattle.faults.proofs.Caught.{at-somewhere, somewhere-at}
 
 module _ {S : Type 0} (o : Operations S) (allows : S → Bool → Type 0) (exact : Exact o allows) where

@@ -9,7 +9,7 @@ ghost use Rattle.card.specs.Views.{netlistOf};
 ghost use Rattle.vectors.specs.Extending.{Extends};
 ghost use Rattle.vectors.specs.Vectors.{Cells, Fills};
 ghost use Rattle.vectors.specs.Views.{cellsOf};
-ghost use Rattle.faults.specs.Catching.{AllFixed, catches as catchesOf, opposite as oppositeOf, oppositeSomewhere, ShownByEveryFilling, ternaryNets};
+ghost use Rattle.faults.specs.Catching.{AllFixed, catches as catchesOf, opposite as oppositeOf, oppositeSomewhere, ShownByEveryFilling};
 ghost use Rattle.faults.specs.Showing.{Shows};
 use card::netlist::Card;
 use signal::line::Stuck;

@@ -1,6 +1,5 @@
 -- The two walks give the three values of the good and of the faulty card, whose outputs are nets.
 use mathlib.Core.Path.{_≡_, sym, _∙_, ap}
-use mathlib.Core.Bool.{true}
 use Rattle.std.proofs.shelf.Ways.{decides-at}
 use Rattle.card.specs.Netlists.{allBelow, nets}
 use Rattle.card.specs.Views.{netlistOf}

@@ -1,7 +1,5 @@
 -- A bit of the clash is an input that is fixed oppositely; without one the fixed cells of both agree.
-use mathlib.Core.Path.{_≡_, refl, sym, _∙_, ap}
-use native.Mathlib.Omega.{arith}
-use borrow.Author.Needs.{needs}
+use mathlib.Core.Path.{refl, sym}
 use Rattle.std.proofs.shelf.Tests.{eq-eqb, false≢true, ne-eqb}
 use Rattle.vectors.specs.Views.{cellsOf}
 use Rattle.vectors.proofs.Merged.{never-opposed, opposed-from, union-extends, union-filled, union-is-zero}
