@@ -18,6 +18,9 @@ use signal::line::Line;
 use std::alloc::AllocError;
 use std::alloc::Global;
 
+// So many readers make a net shared.
+const SHARED: usize = 2;
+
 // Puts the pins of the gate that makes a net behind the list.
 fn push_pins(list: &mut Vec<Reader>, net: u16, gate: Gate) -> Result<(), AllocError>
     ensures appends_the_pins_in_order { λ r. ⌜ made r (λ _. vec-items (now (list .exit)) ≡ vec-items (now (list .entry)) ++ pinReaders net 0 (pinsOf gate)) ⌝ }
@@ -80,7 +83,7 @@ pub(crate) fn share(
 {
     let mut found = Vec::new(heap);
     for reader in list {
-        if counts[reader.net as usize] >= 2 {
+        if counts[reader.net as usize] >= SHARED {
             found.push(*reader)?;
         }
     }
