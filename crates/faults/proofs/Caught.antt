@@ -2,7 +2,7 @@
 use mathlib.Core.Path.{_≡_, refl, sym, _∙_, ap, ap₂, subst}
 use mathlib.Core.List.{List, [], _∷_}
 use mathlib.Core.Bool.{Bool, true, false, not, _||_}
-use mathlib.Core.Logic.{_⊎_, inl, inr, ⊎-elim}
+use mathlib.Core.Logic.{_⊎_, ⊎-elim}
 use Prim.Native.Nat.{ℕ, zero, suc, _+_, _<_, _≤_}
 use native.Mathlib.Omega.{arith}
 use lib.ListN.{length, getD, take, drop}
@@ -18,7 +18,7 @@ use Rattle.signal.specs.declared.ternary.Ternary.the-variants.{Low, High, X}
 use Rattle.signal.specs.Laws.{Only}
 use Rattle.signal.specs.Lists.{Everywhere}
 use Rattle.signal.specs.Operations.{bitOperations}
-use Rattle.signal.specs.Ternaries.{Allows, has, ternaryOperations}
+use Rattle.signal.specs.Ternaries.{Allows, ternaryOperations}
 use Rattle.signal.specs.Walks.{netValues}
 use Rattle.card.proofs.Below.{below-head, below-tail}
 use Rattle.signal.proofs.Below.{entry-read, output-below}
@@ -27,7 +27,7 @@ use Rattle.signal.proofs.Keeping.{net-values-kept}
 use Rattle.signal.proofs.Places.{everywhere-at, everywhere-from, everywhere-read}
 use Rattle.signal.proofs.Unknowns.{ternary-exact, ternary-sound}
 use Rattle.signal.proofs.Walked.{length-net-values}
-use Rattle.vectors.specs.Vectors.{Cells, Fills, bitAt, cellAt, cellOf, start}
+use Rattle.vectors.specs.Vectors.{Cells, Fills, bitAt, cellOf, start}
 use Rattle.vectors.proofs.Fillings.{cells-at, filled-by-the-allowed, length-cells}
 use Rattle.faults.specs.Catching.{AllFixed, ShownByEveryFilling, catches, caughtAt, opposite, oppositeAt, oppositeSomewhere, ternaryNets}
 use Rattle.faults.specs.Showing.{Shows, ShowsAt, outputBit, outputNet}

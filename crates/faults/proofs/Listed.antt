@@ -3,16 +3,16 @@ use mathlib.Core.Path.{_≡_, refl, sym, _∙_, ap}
 use mathlib.Core.List.{List, [], _∷_, _++_, append-assoc}
 use mathlib.Core.Bool.{Bool, true, false, cond}
 use mathlib.Core.Logic.{⊎-elim}
-use Prim.Native.Nat.{ℕ, zero, suc, _+_, _*_, _<_, _≤_}
+use Prim.Native.Nat.{ℕ, suc, _+_, _*_, _<_, _≤_}
 use native.Mathlib.Nat.{add-zero, add-suc, suc-add}
 use native.Mathlib.Omega.{arith}
-use lib.Dec.{eqb, leb}
+use lib.Dec.{leb}
 use lib.ListN.{length, getD, set, take, drop, length-append, length-take}
-use Rattle.std.specs.shelf.Lists.{All, countBy, kept-by}
+use Rattle.std.specs.shelf.Lists.{All}
 use Rattle.std.proofs.shelf.Elements.{all-append, all-getD, kept-by-more}
 use Rattle.std.proofs.shelf.Lists.{append-nil, at-drop-all, at-drop-more, getD-set-other, getD-set-same, take-all}
 use Rattle.std.proofs.shelf.Sums.{countBy-le-length, countBy-more-no, countBy-more-yes, length-kept-by}
-use Rattle.std.proofs.shelf.Tests.{cases-bool, cases-eq, eq-eqb, ne-eqb}
+use Rattle.std.proofs.shelf.Tests.{cases-eq, eq-eqb, ne-eqb}
 use Rattle.card.specs.declared.gate.Gate.{Gate}
 use Rattle.card.specs.declared.gate.Operands.{Operands}
 use Rattle.card.specs.declared.gate.Operands.the-variants.{None, One, Two}

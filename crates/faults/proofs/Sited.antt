@@ -1,14 +1,14 @@
 -- The laws of the sites: which lines they have, in which order, and which pins are among them.
 use mathlib.Core.Path.{_≡_, refl, sym, _∙_, ap, ap₂, subst}
-use mathlib.Core.List.{List, [], _∷_, _++_, map}
+use mathlib.Core.List.{List, [], _∷_}
 use mathlib.Core.Bool.{Bool, true, false, cond}
-use mathlib.Core.Logic.{_⊎_, inl, inr, ⊎-elim, _↔_}
+use mathlib.Core.Logic.{_⊎_, inl, inr, ⊎-elim}
 use Prim.Native.Nat.{ℕ, zero, suc, _+_, _-_, _*_, _/_, _%_, _<_, _≤_}
 use native.Mathlib.Nat.{add-zero, add-suc, suc-add}
 use native.Mathlib.Omega.{arith}
 use lib.Dec.{eqb, leb, ltb}
 use lib.ListN.{length, getD}
-use Rattle.std.specs.shelf.Lists.{All, countBy, kept-by, sumBy}
+use Rattle.std.specs.shelf.Lists.{All, sumBy}
 use Rattle.std.specs.shelf.Maps.{nth}
 use Rattle.std.specs.declared.option.Option.the-variants.{Some, None}
 use Rattle.std.specs.declared.option.Option.{Option}
@@ -17,7 +17,7 @@ use Rattle.std.proofs.shelf.Elements.{all-append, all-kept-by, all-weaker, kept
 use Rattle.std.proofs.shelf.Lists.{length-map}
 use Rattle.std.proofs.shelf.Maps.{nth-getD, nth-past}
 use Rattle.std.proofs.shelf.Sums.{sumBy-append, sumBy-cons}
-use Rattle.std.proofs.shelf.Tests.{cases-lt, cases-order, cond-both, cond-false, cond-true, false≢true, le-leb, le-ltb, leb-true, lt-ltb}
+use Rattle.std.proofs.shelf.Tests.{cases-lt, cases-order, cond-false, cond-true, le-leb, le-ltb, leb-true, lt-ltb}
 use Rattle.std.proofs.shelf.Ways.{tells}
 use Rattle.card.specs.declared.gate.Gate.{Gate}
 use Rattle.card.specs.Alikes.{times}
@@ -28,23 +28,10 @@ use Rattle.signal.specs.declared.line.Stuck.{Stuck}
 use Rattle.faults.specs.declared.reader.Reader.{Reader}
 use Rattle.faults.specs.Readers.{branches, gateReaders, pinReaders, readCount, readIn, readers, reads}
 use Rattle.faults.specs.SiteLaws.{Before, IsPin, IsSite, PinReads, SiteLaws}
-use Rattle.faults.specs.Sites.{branchLines, faultCount, lineOf, siteCount, stuckAt, stuckOf}
+use Rattle.faults.specs.Sites.{branchLines, lineOf, siteCount, stuckAt, stuckOf}
 use Rattle.faults.proofs.Listed.{length-branches}
+use Rattle.faults.proofs.Placed.{In, all-nth, has-kept, has-nth, in-append-left, in-append-right, map-nth, nth-map}
 use Rattle.faults.proofs.Ranked.{Rising, rising-append, rising-at, rising-kept}
-
--- an element stands in a list
-abbrev In : {X : Type 0} → List X → X → Type 0
-In [] x = ⊥
-In (y ∷ ys) x = (y ≡ x) ⊎ In ys x
-
-in-append-left : {X : Type 0} (xs ys : List X) (x : X) → In xs x → In (xs ++ ys) x
-in-append-left [] ys x h = absurd h
-in-append-left (y ∷ xs) ys x (inl e) = inl e
-in-append-left (y ∷ xs) ys x (inr h) = inr (in-append-left xs ys x h)
-
-in-append-right : {X : Type 0} (xs ys : List X) (x : X) → In ys x → In (xs ++ ys) x
-in-append-right [] ys x h = h
-in-append-right (y ∷ xs) ys x h = inr (in-append-right xs ys x h)
 
 abbrev First : Reader → Reader → Type 0
 First r s = Before (r .line) (s .line)
@@ -148,37 +135,6 @@ gates-read net j (g ∷ gs) =
     ∙ sym (sumBy-cons (λ h. times net (pinsOf h)) g gs)
 
 -- ---- the lines by number
-
-module _ {X : Type 0} where
-  pub has-nth : (xs : List X) (x : X) → In xs x → (i : ℕ) × (nth xs i ≡ Some x)
-  has-nth [] x h = absurd h
-  has-nth (y ∷ ys) x (inl e) = (0, ap Some e)
-  has-nth (y ∷ ys) x (inr h) = let r = has-nth ys x h in (suc (r .0), r .1)
-
-  pub all-nth : (P : X → Type 0) (xs : List X) (i : ℕ) (x : X) → All P xs → nth xs i ≡ Some x → P x
-  all-nth P [] i x a e = absurd (let z : _≡_ {A = ℕ} 0 1 = cc in omega arith)
-  all-nth P (y ∷ ys) zero x a e = let q : y ≡ x = cc in subst P q (a .0)
-  all-nth P (y ∷ ys) (suc i) x a e = all-nth P ys i x (a .1) e
-
-  pub nth-below : (xs : List X) (i : ℕ) (x : X) → nth xs i ≡ Some x → i < length xs
-  nth-below [] i x e = absurd (let z : _≡_ {A = ℕ} 0 1 = cc in omega arith)
-  nth-below (y ∷ ys) zero x e = omega arith
-  nth-below (y ∷ ys) (suc i) x e = let h = nth-below ys i x e in omega arith
-
-  pub has-kept : (p : X → Bool) (xs : List X) (x : X) → In xs x → p x ≡ true → In (kept-by p xs) x
-  has-kept p [] x h t = h
-  has-kept p (y ∷ ys) x (inl e) t = subst (λ (zs : List X). In zs x) (sym (cond-true (p y) (y ∷ kept-by p ys) (kept-by p ys) (ap p e ∙ t))) (inl e)
-  has-kept p (y ∷ ys) x (inr h) t = cond-both (p y) (y ∷ kept-by p ys) (kept-by p ys) (λ zs. In zs x) (λ e. inr (has-kept p ys x h t)) (λ e. has-kept p ys x h t)
-
-pub nth-map : {X Y : Type 0} (f : X → Y) (xs : List X) (i : ℕ) (y : Y) → nth (map f xs) i ≡ Some y → (x : X) × (nth xs i ≡ Some x) × (f x ≡ y)
-nth-map f [] i y e = absurd (let z : _≡_ {A = ℕ} 0 1 = cc in omega arith)
-nth-map f (x ∷ xs) zero y e = (x, refl, cc)
-nth-map f (x ∷ xs) (suc i) y e = nth-map f xs i y e
-
-pub map-nth : {X Y : Type 0} (f : X → Y) (xs : List X) (i : ℕ) (x : X) → nth xs i ≡ Some x → nth (map f xs) i ≡ Some (f x)
-map-nth f [] i x e = absurd (let z : _≡_ {A = ℕ} 0 1 = cc in omega arith)
-map-nth f (w ∷ xs) zero x e = let q : w ≡ x = cc in ap (λ v. Some (f v)) q
-map-nth f (w ∷ xs) (suc i) x e = map-nth f xs i x e
 
 module _ (c : Netlist) where
   abbrev n : ℕ

@@ -2,7 +2,7 @@
 // The lists are made once, when a card is opened; the count is kept by net, so that no list is searched.
 ghost use mathlib.Core.Path.{_≡_};
 ghost use mathlib.Core.List.{_++_};
-ghost use Prim.Native.Nat.{ℕ, _+_, _<_, _≤_};
+ghost use Prim.Native.Nat.{ℕ, _+_, _<_};
 ghost use lib.ListN.{getD, length};
 ghost use Rattle.std.specs.Of.Vec.{vec-items};
 ghost use Rattle.std.specs.Vec.{made};
@@ -17,6 +17,9 @@ use card::netlist::Card;
 use signal::line::Line;
 use std::alloc::AllocError;
 use std::alloc::Global;
+
+// So many readers make a net shared.
+const SHARED: usize = 2;
 
 // Puts the pins of the gate that makes a net behind the list.
 fn push_pins(list: &mut Vec<Reader>, net: u16, gate: Gate) -> Result<(), AllocError>
@@ -83,7 +86,7 @@ pub(crate) fn share(
 {
     let mut found = Vec::new(heap);
     for reader in list {
-        if counts[reader.net as usize] >= 2 {
+        if counts[reader.net as usize] >= SHARED {
             found.push(*reader)?;
         }
     }

@@ -1,18 +1,18 @@
 -- The bits of two vectors merged, and the settings that fill the merged vector.
 use mathlib.Core.Path.{_≡_, refl, sym, ap, ap₂, _∙_}
 use mathlib.Core.Bool.{Bool, true, false, not, _&&_, _||_}
-use mathlib.Core.Logic.{_⊎_, inl, inr, ⊎-elim, _↔_}
-use mathlib.Core.List.{List}
-use Prim.Native.Nat.{ℕ, zero, suc, _+_, _*_, _/_, _%_, _^_, _<_}
+use mathlib.Core.Logic.{_⊎_, ⊎-elim}
+use Prim.Native.Nat.{ℕ, zero, suc, _/_, _%_, _^_, _<_}
 use native.Mathlib.Omega.{arith}
 use lib.Arith.{bin-ind}
 use lib.Bits.{bitAnd, bitOr, bitXor, xor-mod, xor-shr}
 use lib.Dec.{eqb}
 use Rattle.signal.specs.Operations.{differ}
 use Rattle.std.proofs.shelf.Bits.{div-add-mod', mod-below}
-use Rattle.std.proofs.shelf.Tests.{and-from, and-parts, both-ways, cases-bool, cases-eq, eq-eqb, false≢true, or-cases, or-from, or-left, or-parts, or-right, true≢false}
-use Rattle.vectors.specs.Merging.{FilledByBoth, Opposed, mergeable, union}
-use Rattle.vectors.specs.Vectors.{Cells, Fills, bitAt, holding}
+use Rattle.std.proofs.shelf.Tests.{and-from, and-parts, both-ways, cases-eq, eq-eqb, false≢true, or-cases, or-from, or-left, or-parts, or-right, true≢false}
+use Rattle.vectors.specs.Extending.{Extends}
+use Rattle.vectors.specs.Merging.{FilledByBoth, Opposed, union}
+use Rattle.vectors.specs.Vectors.{Cells, bitAt}
 use Rattle.vectors.proofs.Bits.{bit-and, bit-lowest, bit-of-zero, bit-or, bit-suc}
 use Rattle.vectors.proofs.Forms.{free-from-bits, zero-where-free}
 
@@ -105,6 +105,9 @@ module _ (v w : Cells) where
 
     care-from-other : (j : ℕ) → bitAt (w .care) j ≡ true → bitAt (union v w .care) j ≡ true
     care-from-other j t = bit-or (v .care) (w .care) j ∙ or-right (bitAt (v .care) j) (bitAt (w .care) j) t
+
+    pub union-extends : Extends (union v w) v × Extends (union v w) w
+    union-extends = (record { fixes = care-from-one; same-bit = value-of-one }, record { fixes = care-from-other; same-bit = value-of-other })
 
     pub union-filled : FilledByBoth v w (union v w)
     union-filled k bits = (

@@ -1,6 +1,5 @@
 -- The two walks give the three values of the good and of the faulty card, whose outputs are nets.
 use mathlib.Core.Path.{_≡_, sym, _∙_, ap}
-use mathlib.Core.Bool.{true}
 use Rattle.std.proofs.shelf.Ways.{decides-at}
 use Rattle.card.specs.Netlists.{allBelow, nets}
 use Rattle.card.specs.Views.{netlistOf}
@@ -8,6 +7,7 @@ use Rattle.card.proofs.Below.{below-weaken}
 use Rattle.vectors.specs.Views.{cellsOf}
 use Rattle.faults.specs.Catching.{catches}
 use Rattle.faults.proofs.Caught.{catch-shown, catches-read, fixed-catches}
+use Rattle.faults.proofs.Refined.{catches-more}
 use Rattle.faults.proofs.catching.catches.Needs as need
 
 pub opposite-somewhere-requires : need.opposite-somewhere-requires
@@ -30,5 +30,6 @@ returns c =
     record {
       says-whether-good-and-faulty-are-opposite-at-an-output = e;
       a-catch-is-shown-by-every-filling-at-one-output = λ t. catch-shown card s v (sym e ∙ t);
+      what-extends-the-vector-catches-too = λ t w x. catches-more card s w v x (sym e ∙ t);
       without-free-cells-a-catch-is-a-showing = λ a bits f. decides-at r (catches card s v) e (fixed-catches card s v bits rules a f);
     }

@@ -1,9 +1,8 @@
 -- One reader more is counted at its net; the count never passes the number of readers.
-use mathlib.Core.Path.{_≡_, sym, _∙_, ap, refl}
-use Prim.Native.Nat.{ℕ, _<_}
+use mathlib.Core.Path.{_∙_, ap, refl}
+use Prim.Native.Nat.{_<_}
 use native.Mathlib.Omega.{arith}
-use borrow.Author.Needs.{needs}
-use lib.ListN.{getD, length, length-set, take}
+use lib.ListN.{getD, length-set}
 use Rattle.std.proofs.shelf.Lists.{getD-replicate, take-all}
 use Rattle.signal.specs.declared.line.Line.the-variants.{Net}
 use Rattle.faults.specs.declared.reader.Reader.{Reader}
