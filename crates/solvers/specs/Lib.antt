@@ -1,0 +1,7 @@
+pub mod Stacks
+pub mod Scanning
+pub mod Trails
+pub mod Resuming
+pub mod Looping
+pub mod Outcomes
+pub mod Stores

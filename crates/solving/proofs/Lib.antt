@@ -1,0 +1,9 @@
+pub mod Places
+pub mod Closed
+pub mod Closures
+pub mod Ordering
+pub mod Sounds
+pub mod Costs
+pub mod Outcomes
+pub mod Tallies
+pub mod Kept

@@ -1,0 +1,16 @@
+pub mod Literals
+pub mod Readings
+pub mod Settings
+pub mod States
+pub mod Closing
+pub mod Orders
+pub mod Leading
+pub mod Models
+pub mod Refusals
+pub mod Answers
+pub mod Trials
+pub mod Backtracking
+pub mod Counting
+pub mod ClosureLaws
+pub mod SearchLaws
+pub mod Promises
