@@ -1,0 +1,3 @@
+-- Lemmas on rows, links and what follows of them.
+pub mod Renamed
+pub mod Ruled

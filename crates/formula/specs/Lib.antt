@@ -1,0 +1,6 @@
+-- The definitions that the contracts of formula cite.
+pub mod Rows
+pub mod Variables
+pub mod Links
+pub mod Formulas
+pub mod RowLaws
