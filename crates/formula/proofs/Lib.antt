@@ -1,3 +1,7 @@
 -- Lemmas on rows, links and what follows of them.
+pub mod Parts
 pub mod Renamed
 pub mod Ruled
+pub mod Linked
+pub mod Known
+pub mod Canonical
