@@ -1,12 +1,3 @@
-pub mod Standing
-pub mod Steps
-pub mod Adding
-pub mod Decoded
-pub mod Judged
-pub mod Ruled
 pub mod Below
-pub mod Lawfully
-pub mod Appended
-pub mod Canonical
 pub mod Oftens
 pub mod Alikely

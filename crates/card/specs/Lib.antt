@@ -1,11 +1,5 @@
 pub mod Functions
 pub mod Netlists
+pub mod Parts
 pub mod Views
-pub mod Refusals
-pub mod Commands
-pub mod Reading
-pub mod Drafts
-pub mod Rules
-pub mod Writing
 pub mod Alikes
-pub mod Wires

@@ -1,15 +1,8 @@
 // Cards: combinational netlists of at most 32 inputs, 256 nets and 32 outputs.
-// The type `Card` carries every rule of a card; `read` makes one from bytes, `write` spells one, `alike` compares two.
+// The type `Card` carries every rule of a card, so whoever holds one may index its nets without a test; `alike` compares two.
 pub mod access;
 pub mod alike;
-pub mod command;
-mod decode;
-mod draft;
-pub mod fault;
+pub mod assemble;
 pub mod function;
 pub mod gate;
-mod judge;
 pub mod netlist;
-pub mod read;
-pub mod wire;
-pub mod write;

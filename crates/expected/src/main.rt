@@ -1,7 +1,8 @@
 // The program `expected`: a card file, then lines of cells on standard input; for each line the outputs that a good card shows.
 // All that decides anything is in the libraries; this file reads and prints.
-use card::fault::CardFault;
 use card::netlist::Card;
+use reading::fault::CardFault;
+use reading::read::from_bytes;
 use std::env;
 use std::error::AnyError;
 use std::fs;
@@ -47,7 +48,7 @@ fn run(rt: &LibcRuntime) -> Result<(), AnyError> {
         return Err("usage: expected CARD-FILE < ROWS".into());
     };
     let bytes = fs::read(rt, path.as_str())?;
-    match Card::from_bytes(rt.alloc(), bytes.as_slice()) {
+    match from_bytes(rt.alloc(), bytes.as_slice()) {
         Ok(card) => {
             for line in BufReader::new(rt.stdin()).lines(rt.alloc()) {
                 let text = line?;

@@ -3,3 +3,4 @@ pub mod Listed
 pub mod Ranked
 pub mod Sited
 pub mod Caught
+pub mod Thinned

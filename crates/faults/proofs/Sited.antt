@@ -3,7 +3,7 @@ use mathlib.Core.Path.{_≡_, refl, sym, _∙_, ap, ap₂, subst}
 use mathlib.Core.List.{List, [], _∷_, _++_, map}
 use mathlib.Core.Bool.{Bool, true, false, cond}
 use mathlib.Core.Logic.{_⊎_, inl, inr, ⊎-elim, _↔_}
-use Prim.Native.Nat.{ℕ, zero, suc, _+_, _-_, _*_, _<_, _≤_}
+use Prim.Native.Nat.{ℕ, zero, suc, _+_, _-_, _*_, _/_, _%_, _<_, _≤_}
 use native.Mathlib.Nat.{add-zero, add-suc, suc-add}
 use native.Mathlib.Omega.{arith}
 use lib.Dec.{eqb, leb, ltb}
@@ -11,20 +11,24 @@ use lib.ListN.{length, getD}
 use Rattle.std.specs.shelf.Lists.{All, countBy, kept-by, sumBy}
 use Rattle.std.specs.shelf.Maps.{nth}
 use Rattle.std.specs.declared.option.Option.the-variants.{Some, None}
+use Rattle.std.specs.declared.option.Option.{Option}
+use Rattle.std.proofs.shelf.Bits.{div-add-mod', div-mul-add, mod-below, mod-mul-add}
 use Rattle.std.proofs.shelf.Elements.{all-append, all-kept-by, all-weaker, kept-by-passes}
 use Rattle.std.proofs.shelf.Lists.{length-map}
 use Rattle.std.proofs.shelf.Maps.{nth-getD, nth-past}
 use Rattle.std.proofs.shelf.Sums.{sumBy-append, sumBy-cons}
 use Rattle.std.proofs.shelf.Tests.{cases-lt, cases-order, cond-both, cond-false, cond-true, false≢true, le-leb, le-ltb, leb-true, lt-ltb}
+use Rattle.std.proofs.shelf.Ways.{tells}
 use Rattle.card.specs.declared.gate.Gate.{Gate}
 use Rattle.card.specs.Alikes.{times}
 use Rattle.card.specs.Netlists.{Lawful, Netlist, nets, pinsOf}
 use Rattle.signal.specs.declared.line.Line.{Line}
 use Rattle.signal.specs.declared.line.Line.the-variants.{Net, Pin}
+use Rattle.signal.specs.declared.line.Stuck.{Stuck}
 use Rattle.faults.specs.declared.reader.Reader.{Reader}
 use Rattle.faults.specs.Readers.{branches, gateReaders, pinReaders, readCount, readIn, readers, reads}
 use Rattle.faults.specs.SiteLaws.{Before, IsPin, IsSite, PinReads, SiteLaws}
-use Rattle.faults.specs.Sites.{branchLines, faultCount, lineOf, siteCount}
+use Rattle.faults.specs.Sites.{branchLines, faultCount, lineOf, siteCount, stuckAt, stuckOf}
 use Rattle.faults.proofs.Listed.{length-branches}
 use Rattle.faults.proofs.Ranked.{Rising, rising-append, rising-at, rising-kept}
 
@@ -273,6 +277,34 @@ module _ (c : Netlist) where
         subst (λ (m : ℕ). 2 ≤ readCount c m) nn u)
       (cases-lt j n)
 
+-- ---- faults
+
+unstuck : (level : Bool) (o : Option Line) (s : Stuck) → stuckAt level o ≡ Some s → (o ≡ Some (s .line)) × (level ≡ s .level)
+unstuck level None s e = absurd (let z : _≡_ {A = ℕ} 0 1 = cc in omega arith)
+unstuck level (Some l) s e =
+    let q : record { line = l; level = level } ≡ s = cc in
+    (ap (λ (x : Stuck). Some (x .line)) q, ap (λ (x : Stuck). x .level) q)
+
+-- a fault number from its site and its level
+pub both-levels : (c : Netlist) (j : ℕ) (l : Line) (b : Bool) → lineOf c j ≡ Some l → stuckOf c (2 * j + cond b 1 0) ≡ Some (record { line = l; level = b })
+both-levels c j l true e =
+    let n : 2 * j + 1 ≡ j * 2 + 1 = omega arith in
+    ap₂ stuckAt (ap (λ (x : ℕ). eqb (x % 2) 1) n ∙ ap (λ (x : ℕ). eqb x 1) (mod-mul-add j 2 1 (omega arith))) (ap (λ (x : ℕ). lineOf c (x / 2)) n ∙ ap (lineOf c) (div-mul-add j 2 1 (omega arith)) ∙ e)
+both-levels c j l false e =
+    let n : 2 * j + 0 ≡ j * 2 + 0 = omega arith in
+    ap₂ stuckAt (ap (λ (x : ℕ). eqb (x % 2) 1) n ∙ ap (λ (x : ℕ). eqb x 1) (mod-mul-add j 2 0 (omega arith))) (ap (λ (x : ℕ). lineOf c (x / 2)) n ∙ ap (lineOf c) (div-mul-add j 2 0 (omega arith)) ∙ e)
+
+pub one-fault-each : (c : Netlist) (f g : ℕ) (s : Stuck) → stuckOf c f ≡ Some s → stuckOf c g ≡ Some s → f ≡ g
+one-fault-each c f g s p q =
+    let u = unstuck (eqb (f % 2) 1) (lineOf c (f / 2)) s p in
+    let w = unstuck (eqb (g % 2) 1) (lineOf c (g / 2)) s q in
+    let site : f / 2 ≡ g / 2 = one-site-each c (f / 2) (g / 2) (s .line) (u .0) (w .0) in
+    let level : eqb (f % 2) 1 ≡ eqb (g % 2) 1 = u .1 ∙ sym (w .1) in
+    let a = mod-below f 2 (omega arith) in
+    let b = mod-below g 2 (omega arith) in
+    let d : f % 2 ≡ g % 2 = grind (arith, tells) in
+    omega (arith, div-add-mod' f 2, div-add-mod' g 2)
+
 pub site-laws : (c : Netlist) → SiteLaws c
 site-laws c = record {
   every-site-has-a-line = site-has-line c;
@@ -283,5 +315,7 @@ site-laws c = record {
   past-the-nets-are-pins = past-nets-pins c;
   a-pin-is-a-site-exactly-if-its-net-is-shared = λ i p net r. (site-shared c i p net r, pin-site c i p net r);
   gate-pins-are-the-readers = λ net. gates-read net (c .inputs) (c .gates);
+  every-site-sticks-at-both-levels = both-levels c;
+  different-faults-stick-differently = one-fault-each c;
   two-faults-for-each-net-and-branch = refl;
 }

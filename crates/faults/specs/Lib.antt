@@ -6,3 +6,4 @@ pub mod Refusals
 pub mod Views
 pub mod Showing
 pub mod Catching
+pub mod Thinning

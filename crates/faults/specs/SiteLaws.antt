@@ -1,6 +1,7 @@
 -- What the sites of a netlist are, in words of lines, nets and pins.
 use mathlib.Core.Path.{_≡_}
 use mathlib.Core.Logic.{_⊎_, _↔_}
+use mathlib.Core.Bool.{Bool, cond}
 use Prim.Native.Nat.{ℕ, _+_, _*_, _<_, _≤_}
 use lib.ListN.{length}
 use Rattle.std.specs.shelf.Lists.{sumBy}
@@ -11,8 +12,9 @@ use Rattle.card.specs.Alikes.{times}
 use Rattle.card.specs.Netlists.{Netlist, nets, pinsOf}
 use Rattle.signal.specs.declared.line.Line.{Line}
 use Rattle.signal.specs.declared.line.Line.the-variants.{Net, Pin}
+use Rattle.signal.specs.declared.line.Stuck.{Stuck}
 use Rattle.faults.specs.Readers.{branches, readCount}
-use Rattle.faults.specs.Sites.{faultCount, lineOf, siteCount}
+use Rattle.faults.specs.Sites.{faultCount, lineOf, siteCount, stuckOf}
 
 -- pin p of gate i reads this net
 pub record PinReads (c : Netlist) (i p net : ℕ) : Type 0 where
@@ -48,4 +50,6 @@ pub record SiteLaws (c : Netlist) : Type 0 where
   pub past-the-nets-are-pins : (j : ℕ) (l : Line) → nets c ≤ j → lineOf c j ≡ Some l → IsPin c l
   pub a-pin-is-a-site-exactly-if-its-net-is-shared : (i p net : ℕ) → PinReads c i p net → IsSite c (Pin (c .inputs + i) p) ↔ (2 ≤ readCount c net)
   pub gate-pins-are-the-readers : (net : ℕ) → readCount c net ≡ sumBy (λ g. times net (pinsOf g)) (c .gates)
+  pub every-site-sticks-at-both-levels : (j : ℕ) (l : Line) (b : Bool) → lineOf c j ≡ Some l → stuckOf c (2 * j + cond b 1 0) ≡ Some (record { line = l; level = b })
+  pub different-faults-stick-differently : (f g : ℕ) (s : Stuck) → stuckOf c f ≡ Some s → stuckOf c g ≡ Some s → f ≡ g
   pub two-faults-for-each-net-and-branch : faultCount c ≡ 2 * (c .inputs + length (c .gates) + length (branches c))

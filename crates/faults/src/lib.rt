@@ -7,3 +7,5 @@ pub mod open;
 pub mod reader;
 mod readers;
 pub mod refusal;
+pub mod thinning;
+mod trial;

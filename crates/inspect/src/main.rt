@@ -2,7 +2,8 @@
 // It answers a card's counts and canonical bytes, or its refusal, and of two good cards whether they are alike.
 use card::alike::alike;
 use card::netlist::Card;
-use card::write::write;
+use reading::read::from_bytes;
+use reading::write::write;
 use std::alloc::AllocError;
 use std::alloc::Global;
 use std::error::AnyError;
@@ -59,7 +60,7 @@ fn open(rt: &LibcRuntime, text: &str) -> Result<Option<Card>, AnyError> {
         println!(rt, "no bytes")?;
         return Ok(None);
     };
-    match Card::from_bytes(rt.alloc(), bytes.as_slice()) {
+    match from_bytes(rt.alloc(), bytes.as_slice()) {
         Ok(card) => Ok(Some(card)),
         Err(fault) => {
             let number = fault.number();

@@ -3,3 +3,6 @@ pub mod Scanned
 pub mod Trailing
 pub mod Looped
 pub mod Stored
+pub mod Verdicts
+pub mod Numbered
+pub mod Counted

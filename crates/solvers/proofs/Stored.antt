@@ -30,6 +30,9 @@ pub ends-of : (row : List ℤ) (n from : ℕ) (ends : List ℕ) → n ≡ length
 ends-of row n from [] l e = eqb-true from n e ∙ l
 ends-of row n from (x ∷ ends) l e = (leb-true from x (and-left (leb from x) (endsWell n x ends) e), ends-of row n x ends l (and-right (leb from x) (endsWell n x ends) e))
 
+pub ends-as : (row other : List ℤ) (ends others : List ℕ) → row ≡ other → ends ≡ others → Ends other 0 others → Ends row 0 ends
+ends-as row other ends others p q h = rw (p, q) h
+
 pub ends-more : (n m from : ℕ) (ends : List ℕ) → n ≤ m → endsWell n from ends ≡ true → endsWell m from (ends ++ (m ∷ [])) ≡ true
 ends-more n m from [] h e = let f = eqb-true from n e in ap₂ _&&_ (le-leb from m (omega arith)) (eq-eqb m m refl)
 ends-more n m from (x ∷ ends) h e = ap₂ _&&_ (and-left (leb from x) (endsWell n x ends) e) (ends-more n m x ends h (and-right (leb from x) (endsWell n x ends) e))

@@ -5,3 +5,4 @@ pub mod Resuming
 pub mod Looping
 pub mod Outcomes
 pub mod Stores
+pub mod Numbering

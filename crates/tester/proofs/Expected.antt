@@ -11,11 +11,11 @@ use Rattle.std.specs.Vec.{refused}
 use Rattle.std.specs.declared.result.Result.{Result}
 use Rattle.std.specs.declared.result.Result.the-variants.{Ok, Err}
 use Rattle.std.proofs.shelf.Tests.{cond-false, cond-true}
-use Rattle.card.specs.declared.fault.CardFault.{CardFault}
-use Rattle.card.specs.declared.fault.CardFault.the-variants.{Unknown, Ended, Operand, LateInput, Limit, NamedTwice, Incomplete, Trailing, Memory}
-use Rattle.card.specs.declared.fault.OperandFault.the-variants.{Cut, Undeclared}
+use Rattle.reading.specs.declared.fault.CardFault.{CardFault}
+use Rattle.reading.specs.declared.fault.CardFault.the-variants.{Unknown, Ended, Operand, LateInput, Limit, NamedTwice, Incomplete, Trailing, Memory}
+use Rattle.reading.specs.declared.fault.OperandFault.the-variants.{Cut, Undeclared}
 use Rattle.card.specs.Netlists.{Netlist}
-use Rattle.card.specs.Refusals.{refusalNumber}
+use Rattle.reading.specs.Refusals.{refusalNumber}
 use Rattle.vectors.specs.declared.fault.VectorFault.the-variants.{NotInForm}
 use Rattle.vectors.specs.Vectors.{Cells, holding, inForm}
 use Rattle.tester.specs.Characters.{characters}

@@ -7,8 +7,8 @@ use lib.Dec.{leb}
 use lib.ListN.{length, drop}
 use Rattle.std.specs.declared.result.Result.{Result}
 use Rattle.std.specs.declared.result.Result.the-variants.{Ok, Err}
-use Rattle.card.specs.declared.fault.CardFault.{CardFault}
-use Rattle.card.specs.declared.fault.CardFault.the-variants.{Memory}
+use Rattle.reading.specs.declared.fault.CardFault.{CardFault}
+use Rattle.reading.specs.declared.fault.CardFault.the-variants.{Memory}
 use Rattle.card.specs.Netlists.{Netlist}
 use Rattle.vectors.specs.Vectors.{holding, inForm}
 use Rattle.vectors.specs.declared.fault.VectorFault.the-variants.{NotInForm}

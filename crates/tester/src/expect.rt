@@ -6,13 +6,14 @@ ghost use lib.ListN.{length};
 ghost use Rattle.std.specs.Vec.{made, refused};
 ghost use Rattle.std.specs.declared.result.Result.the-variants.{Err};
 ghost use Rattle.card.specs.Netlists.{Netlist};
-ghost use Rattle.card.specs.Reading.{reading};
-ghost use Rattle.card.specs.Rules.{Accepted};
+ghost use Rattle.reading.specs.Reading.{reading};
+ghost use Rattle.reading.specs.Rules.{Accepted};
 ghost use Rattle.tester.specs.Expecting.{answerOf, codeOf, expectation, leftIn, noMemory};
 use crate::fault::*;
 use crate::outputs::expected_outputs;
-use card::fault::CardFault;
 use card::netlist::Card;
+use reading::fault::CardFault;
+use reading::read::from_bytes;
 use std::alloc::Global;
 use vectors::fault::VectorFault;
 use vectors::vector::Vector;
@@ -31,7 +32,7 @@ pub fn expect_from_bytes(
     ensures answers_one_to_thirty_two { λ r. ⌜ made r (λ m. (1 ≤ m) × (m ≤ 32)) ⌝ }
     ensures a_refusal_leaves_the_buffer { λ r. ⌜ refused r (λ _. now (out .exit) ≡ now (out .entry)) ⌝ }
 {
-    let card = Card::from_bytes(heap, bytes)?;
+    let card = from_bytes(heap, bytes)?;
     let vector = Vector::new(card.inputs(), care, value)?;
     expected_outputs(&card, &vector, out)
 }

@@ -4,7 +4,7 @@ ghost use mathlib.Core.Path.{_≡_};
 ghost use Prim.Native.Nat.{_≤_};
 ghost use Rattle.tester.specs.Refusals.{testerNumber};
 ghost use Rattle.tester.specs.declared.fault.TesterFault.the-variants.{Card as OfCard, Vector as OfVector};
-use card::fault::CardFault;
+use reading::fault::CardFault;
 use vectors::fault::VectorFault;
 
 #[derive(Clone, Copy)]

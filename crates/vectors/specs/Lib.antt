@@ -4,3 +4,5 @@ pub mod Vectors
 pub mod Views
 pub mod Rows
 pub mod Faults
+pub mod Freeing
+pub mod Merging

@@ -7,7 +7,7 @@ use crate::vector::Vector;
 use signal::ternary::Ternary;
 
 // The bit of a number at a place, which is 0 from 32 on.
-fn bit(number: u32, place: usize) -> bool
+pub(crate) fn bit(number: u32, place: usize) -> bool
     ensures is_the_bit { λ r. ⌜ r ≡ bitAt number place ⌝ }
 {
     place < 32 && (number >> place) & 1 == 1

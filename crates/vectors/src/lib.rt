@@ -3,6 +3,9 @@
 pub mod cell;
 pub mod entry;
 pub mod fault;
+pub mod freeing;
+pub mod merge_fault;
+pub mod merging;
 pub mod numbers;
 pub mod row;
 pub mod vector;

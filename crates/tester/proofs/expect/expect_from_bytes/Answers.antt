@@ -7,8 +7,8 @@ use lib.ListN.{length}
 use Rattle.std.specs.declared.result.Result.{Result}
 use Rattle.std.specs.declared.result.Result.the-variants.{Ok, Err}
 use Rattle.std.proofs.shelf.Results.{err-from-errBy}
-use Rattle.card.specs.declared.fault.CardFault.the-variants.{Memory}
-use Rattle.card.specs.Reading.{reading}
+use Rattle.reading.specs.declared.fault.CardFault.the-variants.{Memory}
+use Rattle.reading.specs.Reading.{reading}
 use Rattle.card.specs.Views.{netlistOf}
 use Rattle.vectors.specs.Views.{cellsOf}
 use Rattle.vectors.specs.Vectors.{holding, inForm}

@@ -1,0 +1,10 @@
+pub mod Standing
+pub mod Steps
+pub mod Adding
+pub mod Decoded
+pub mod Judged
+pub mod Ruled
+pub mod Pushes
+pub mod Lawfully
+pub mod Appended
+pub mod Canonical
