@@ -5,3 +5,7 @@ pub mod Ruled
 pub mod Linked
 pub mod Known
 pub mod Canonical
+pub mod Meant
+pub mod Leading
+pub mod Sizes
+pub mod Standing

@@ -4,3 +4,5 @@ pub mod Variables
 pub mod Links
 pub mod Formulas
 pub mod RowLaws
+pub mod Meanings
+pub mod CardB
