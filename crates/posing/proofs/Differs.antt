@@ -1,19 +1,18 @@
 -- What the promises of a solver come to for two bits that differ: the formula is led, one reading satisfies it, and every such reading differs.
-use mathlib.Core.Path.{_≡_, refl, sym, _∙_, ap, subst}
+use mathlib.Core.Path.{_≡_, refl}
 use mathlib.Core.List.{List, [], _∷_}
 use mathlib.Core.Bool.{Bool, true, false, not, _&&_, _||_, Bool·beq, false≢true}
 use mathlib.Core.Logic.{_⊎_, inl, inr}
-use Prim.Native.Nat.{ℕ, suc, _≤_, _<_}
+use Prim.Native.Nat.{ℕ, _<_}
 use native.Mathlib.Decide.{decLt}
 use native.Mathlib.Omega.{arith}
-use lib.ListN.{length, getD}
-use Rattle.std.specs.Options.{Cases}
+use lib.ListN.{getD}
+use Rattle.std.specs.Options.{Cases, isSome}
 use Rattle.std.specs.declared.option.Option.{Option}
 use Rattle.std.specs.declared.option.Option.the-variants.{Some, None}
-use Rattle.solving.specs.Readings.{Satisfies}
 use Rattle.solving.specs.Closing.{units, closure, violated}
 use Rattle.solving.specs.Settings.{openIn}
-use Rattle.solving.specs.Leading.{Led, leads}
+use Rattle.solving.specs.Leading.{leads}
 use Rattle.solving.specs.Models.{Model}
 use Rattle.solving.specs.Answers.{Answers, Says, LedModel}
 use Rattle.solving.specs.declared.verdict.Verdict.the-variants.{Found, None as Unsatisfiable, Undecided}
@@ -62,3 +61,8 @@ module _ (m n : Model) (budget : ℕ) (r : Solved) (poses : m ≡ differing) (an
     go reading h (yes lt) = lt
     go None h (no ge) = absurd (h differing-led (omega arith))
     go (Some bits) h (no ge) = absurd h
+
+-- where the budget is not small, there are two bits
+pub settled : (o : Option (Bool × Bool)) → Cases o (6 < 6) (λ p. p .0 ≡ not (p .1)) → (isSome o ≡ true) × Cases o ⊥ (λ p. p .0 ≡ not (p .1))
+settled None h = absurd (omega arith)
+settled (Some p) h = (refl, h)

@@ -1,7 +1,6 @@
 -- The formula of two bits that differ, and a solver's model that holds it.
-use mathlib.Core.List.{List, [], _∷_}
-use mathlib.Core.Bool.{Bool, true, false, not}
-use lib.IntN.{ℤ, pos, negsuc}
+use mathlib.Core.List.{[], _∷_}
+use lib.IntN.{pos, negsuc}
 use Rattle.solving.specs.Models.{Model, begun, longer}
 
 abbrev pub differing : Model

@@ -1,10 +1,10 @@
 // Posing a small formula to any solver: two bits that differ. What is promised of them rests on the interface's promises alone.
 ghost use mathlib.Core.Path.{_≡_};
-ghost use mathlib.Core.Bool.{Bool, false, not};
+ghost use mathlib.Core.Bool.{Bool, true, false, not};
 ghost use mathlib.Core.List.{List};
 ghost use Prim.Native.Nat.{_<_};
 ghost use lib.ListN.{getD};
-ghost use Rattle.std.specs.Options.{Cases};
+ghost use Rattle.std.specs.Options.{Cases, isSome};
 ghost use Rattle.std.specs.declared.option.Option.the-variants.{Some};
 ghost use Rattle.std.specs.Vec.{made};
 ghost use Rattle.posing.specs.Differing.{differing};
@@ -50,24 +50,21 @@ pub fn differ<S: Solver>(solver: &mut S, budget: u64) -> Option<(bool, bool)>
     }
 }
 
-// Two bits that differ, from any solver: 6 steps are enough.
-pub fn settle<S: Solver>(solver: &mut S) -> (bool, bool)
-    ensures differ { λ r. ⌜ r .0 ≡ not (r .1) ⌝ }
+// Two bits that differ, from any solver: 6 steps are always enough.
+pub fn settle<S: Solver>(solver: &mut S) -> Option<(bool, bool)>
+    ensures settles { λ r. ⌜ isSome r ≡ true ⌝ }
+    ensures differ { λ r. ⌜ Cases r ⊥ (λ p. p .0 ≡ not (p .1)) ⌝ }
 {
-    match differ(solver, 6) {
-        Some(bits) => bits,
-        // Never reached, since the budget is not below 6.
-        None => (false, true),
-    }
+    differ(solver, 6)
 }
 
-// The same of both solvers, one after the other.
-pub fn settle_by_both(heap: Global) -> Result<((bool, bool), (bool, bool)), AllocError>
-    ensures each_pair_differs { λ r. ⌜ made r (λ p. (p .0 .0 ≡ not (p .0 .1)) × (p .1 .0 ≡ not (p .1 .1))) ⌝ }
+// Whether both solvers settle it, one after the other: they do.
+pub fn settle_by_both(heap: Global) -> Result<bool, AllocError>
+    ensures both_settle { λ r. ⌜ made r (λ both. both ≡ true) ⌝ }
 {
     let mut backtracking = Backtracking::new(heap)?;
     let mut counting = Counting::new(heap)?;
     let first = settle(&mut backtracking);
     let second = settle(&mut counting);
-    Ok((first, second))
+    Ok(first.is_some() && second.is_some())
 }
