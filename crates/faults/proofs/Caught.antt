@@ -2,7 +2,7 @@
 use mathlib.Core.Path.{_≡_, refl, sym, _∙_, ap, ap₂, subst}
 use mathlib.Core.List.{List, [], _∷_}
 use mathlib.Core.Bool.{Bool, true, false, not, _||_}
-use mathlib.Core.Logic.{_⊎_, inl, inr, ⊎-elim}
+use mathlib.Core.Logic.{_⊎_, ⊎-elim}
 use Prim.Native.Nat.{ℕ, zero, suc, _+_, _<_, _≤_}
 use native.Mathlib.Omega.{arith}
 use lib.ListN.{length, getD, take, drop}
@@ -18,15 +18,16 @@ use Rattle.signal.specs.declared.ternary.Ternary.the-variants.{Low, High, X}
 use Rattle.signal.specs.Laws.{Only}
 use Rattle.signal.specs.Lists.{Everywhere}
 use Rattle.signal.specs.Operations.{bitOperations}
-use Rattle.signal.specs.Ternaries.{Allows, has, ternaryOperations}
+use Rattle.signal.specs.Ternaries.{Allows, ternaryOperations}
 use Rattle.signal.specs.Walks.{netValues}
-use Rattle.signal.proofs.Below.{below-head, below-tail, entry-read, output-below}
+use Rattle.card.proofs.Below.{below-head, below-tail}
+use Rattle.signal.proofs.Below.{entry-read, output-below}
 use Rattle.signal.proofs.Exactly.{exact-definite}
 use Rattle.signal.proofs.Keeping.{net-values-kept}
 use Rattle.signal.proofs.Places.{everywhere-at, everywhere-from, everywhere-read}
 use Rattle.signal.proofs.Unknowns.{ternary-exact, ternary-sound}
 use Rattle.signal.proofs.Walked.{length-net-values}
-use Rattle.vectors.specs.Vectors.{Cells, Fills, bitAt, cellAt, cellOf, start}
+use Rattle.vectors.specs.Vectors.{Cells, Fills, bitAt, cellOf, start}
 use Rattle.vectors.proofs.Fillings.{cells-at, filled-by-the-allowed, length-cells}
 use Rattle.faults.specs.Catching.{AllFixed, ShownByEveryFilling, catches, caughtAt, opposite, oppositeAt, oppositeSomewhere, ternaryNets}
 use Rattle.faults.specs.Showing.{Shows, ShowsAt, outputBit, outputNet}
@@ -85,13 +86,13 @@ opposite-differ X y p q e a b s = false≢true e
 pub filling-allowed : (c : Netlist) (t : Option Stuck) (v : Cells) (bits : List Bool) (net : ℕ) → Fills (c .inputs) v bits → Allows (getD (ternaryNets c t v) net X) (getD (netValues bitOperations t c bits) net false)
 filling-allowed c t v bits net f =
     everywhere-read Allows (ternaryNets c t v) (netValues bitOperations t c bits) net X false refl
-      (net-values-kept ternaryOperations Allows ternary-sound t c (start (c .inputs) v) bits (filled-by-the-allowed (c .inputs) v bits .0 f))
+    (net-values-kept ternaryOperations Allows ternary-sound t c (start (c .inputs) v) bits (filled-by-the-allowed (c .inputs) v bits .0 f))
 
 pub caught-shows : (c : Netlist) (s : Stuck) (v : Cells) (i : ℕ) → i < length (c .outputs) → caughtAt c s v i ≡ true → (bits : List Bool) → Fills (c .inputs) v bits → ShowsAt c s bits i
 caught-shows c s v i h e bits f = record {
   an-output = h;
   differs = opposite-differ (getD (ternaryNets c None v) (outputNet c i) X) (getD (ternaryNets c (Some s) v) (outputNet c i) X) (outputBit c None bits i) (outputBit c (Some s) bits i) e
-    (filling-allowed c None v bits (outputNet c i) f) (filling-allowed c (Some s) v bits (outputNet c i) f);
+      (filling-allowed c None v bits (outputNet c i) f) (filling-allowed c (Some s) v bits (outputNet c i) f);
 }
 
 -- a catch is shown by every filling at one output
@@ -125,20 +126,20 @@ opposite-fixed false false d = absurd (d refl)
 pub fixed-start : (k : ℕ) (v : Cells) (bits : List Bool) → AllFixed k v → Fills k v bits → Everywhere (Only Allows) (start k v) bits
 fixed-start k v bits a f =
     everywhere-from (Only Allows) (start k v) bits (length-cells v 0 k ∙ sym (f .one-for-each))
-      (λ i d e h.
-        let l : i < k = let n = length-cells v 0 k in omega arith in
-        let b : getD bits i e ≡ bitAt (v .value) i = getD-default bits i e false (let n = f .one-for-each in omega arith) ∙ f .agrees i l (a i l) in
-        let x : getD (start k v) i d ≡ cellOf true (bitAt (v .value) i) =
-        getD-default (start k v) i d X h ∙ cells-at v 0 k i i (omega arith) l ∙ ap (λ (z : Bool). cellOf z (bitAt (v .value) i)) (a i l) in
-        subst (λ (z : Ternary). Only Allows z (getD bits i e)) (sym x) (subst (λ (z : Bool). Only Allows (cellOf true (bitAt (v .value) i)) z) (sym b) (fixed-only (bitAt (v .value) i))))
+    (λ i d e h.
+    let l : i < k = let n = length-cells v 0 k in omega arith in
+    let b : getD bits i e ≡ bitAt (v .value) i = getD-default bits i e false (let n = f .one-for-each in omega arith) ∙ f .agrees i l (a i l) in
+    let x : getD (start k v) i d ≡ cellOf true (bitAt (v .value) i) =
+    getD-default (start k v) i d X h ∙ cells-at v 0 k i i (omega arith) l ∙ ap (λ (z : Bool). cellOf z (bitAt (v .value) i)) (a i l) in
+    subst (λ (z : Ternary). Only Allows z (getD bits i e)) (sym x) (subst (λ (z : Bool). Only Allows (cellOf true (bitAt (v .value) i)) z) (sym b) (fixed-only (bitAt (v .value) i))))
 
 pub fixed-nets : (c : Netlist) (t : Option Stuck) (v : Cells) (bits : List Bool) (net : ℕ) → AllFixed (c .inputs) v → Fills (c .inputs) v bits → net < nets c
     → getD (ternaryNets c t v) net X ≡ cellOf true (getD (netValues bitOperations t c bits) net false)
 fixed-nets c t v bits net a f h =
     only-fixed (getD (ternaryNets c t v) net X) (getD (netValues bitOperations t c bits) net false)
-      (everywhere-at (Only Allows) (ternaryNets c t v) (netValues bitOperations t c bits) net X false
-        (let n = length-net-values ternaryOperations t c (start (c .inputs) v) (length-cells v 0 (c .inputs)) in omega arith)
-        (net-values-kept ternaryOperations (Only Allows) (exact-definite ternaryOperations Allows ternary-exact) t c (start (c .inputs) v) bits (fixed-start (c .inputs) v bits a f)))
+    (everywhere-at (Only Allows) (ternaryNets c t v) (netValues bitOperations t c bits) net X false
+    (let n = length-net-values ternaryOperations t c (start (c .inputs) v) (length-cells v 0 (c .inputs)) in omega arith)
+    (net-values-kept ternaryOperations (Only Allows) (exact-definite ternaryOperations Allows ternary-exact) t c (start (c .inputs) v) bits (fixed-start (c .inputs) v bits a f)))
 
 pub shows-caught : (c : Netlist) (s : Stuck) (v : Cells) (bits : List Bool) → Lawful c → AllFixed (c .inputs) v → Fills (c .inputs) v bits → Shows c s bits → catches c s v ≡ true
 shows-caught c s v bits r a f d =
@@ -146,8 +147,8 @@ shows-caught c s v bits r a f d =
     let h = d .shown .an-output in
     let o = output-below c i 0 r h in
     at-somewhere (ternaryNets c None v) (ternaryNets c (Some s) v) (c .outputs) i h
-      (ap₂ opposite (fixed-nets c None v bits (outputNet c i) a f o) (fixed-nets c (Some s) v bits (outputNet c i) a f o)
-       ∙ opposite-fixed (outputBit c None bits i) (outputBit c (Some s) bits i) (d .shown .differs))
+    (ap₂ opposite (fixed-nets c None v bits (outputNet c i) a f o) (fixed-nets c (Some s) v bits (outputNet c i) a f o)
+    ∙ opposite-fixed (outputBit c None bits i) (outputBit c (Some s) bits i) (d .shown .differs))
 
 -- without free cells, catching is showing
 pub fixed-catches : (c : Netlist) (s : Stuck) (v : Cells) (bits : List Bool) → Lawful c → AllFixed (c .inputs) v → Fills (c .inputs) v bits → Decides (catches c s v) (Shows c s bits)
@@ -162,4 +163,4 @@ pub catches-read : (c : Netlist) (s : Stuck) (v : Cells) (xs ys starts begins : 
 catches-read c s v xs ys starts begins os r l e p q x y t =
     t ∙ ap (oppositeSomewhere xs ys) e
     ∙ somewhere-read (nets c) xs ys (ternaryNets c None v) (ternaryNets c (Some s) v) (c .outputs) (l .outputs-declared)
-        (x ∙ ap (netValues ternaryOperations None c) p) (y ∙ ap (netValues ternaryOperations (Some s) c) q)
+    (x ∙ ap (netValues ternaryOperations None c) p) (y ∙ ap (netValues ternaryOperations (Some s) c) q)

@@ -3,21 +3,21 @@ use mathlib.Core.Path.{_≡_, refl, sym, _∙_, ap}
 use mathlib.Core.List.{List, [], _∷_, _++_, append-assoc}
 use mathlib.Core.Bool.{Bool, true, false, cond}
 use mathlib.Core.Logic.{⊎-elim}
-use Prim.Native.Nat.{ℕ, zero, suc, _+_, _*_, _<_, _≤_}
+use Prim.Native.Nat.{ℕ, suc, _+_, _*_, _<_, _≤_}
 use native.Mathlib.Nat.{add-zero, add-suc, suc-add}
 use native.Mathlib.Omega.{arith}
-use lib.Dec.{eqb, leb}
+use lib.Dec.{leb}
 use lib.ListN.{length, getD, set, take, drop, length-append, length-take}
-use Rattle.std.specs.shelf.Lists.{All, countBy, kept-by}
+use Rattle.std.specs.shelf.Lists.{All}
 use Rattle.std.proofs.shelf.Elements.{all-append, all-getD, kept-by-more}
 use Rattle.std.proofs.shelf.Lists.{append-nil, at-drop-all, at-drop-more, getD-set-other, getD-set-same, take-all}
 use Rattle.std.proofs.shelf.Sums.{countBy-le-length, countBy-more-no, countBy-more-yes, length-kept-by}
-use Rattle.std.proofs.shelf.Tests.{cases-bool, cases-eq, eq-eqb, ne-eqb}
+use Rattle.std.proofs.shelf.Tests.{cases-eq, eq-eqb, ne-eqb}
 use Rattle.card.specs.declared.gate.Gate.{Gate}
 use Rattle.card.specs.declared.gate.Operands.{Operands}
 use Rattle.card.specs.declared.gate.Operands.the-variants.{None, One, Two}
 use Rattle.card.specs.Netlists.{Lawful, Netlist, Ordered, allBelow, nets, netsRead, pinsOf}
-use Rattle.signal.proofs.Below.{below-head, below-tail}
+use Rattle.card.proofs.Below.{below-head, below-tail}
 use Rattle.faults.specs.declared.reader.Reader.{Reader}
 use Rattle.faults.specs.Readers.{branches, gateReaders, pinReaders, readIn, readers, reads, shared}
 
@@ -46,13 +46,13 @@ pub counted-more : (counts : List ℕ) (list : List Reader) (i m x : ℕ) (d : R
     → ((net : ℕ) → net < 256 → getD counts net 0 ≡ readIn (take i list) net) → (net : ℕ) → net < 256 → getD (set counts m x) net 0 ≡ readIn (take (i + 1) list) net
 counted-more counts list i m x d h len lm e s inv net l =
     ⊎-elim
-      (λ q. let here : getD (set counts m x) net 0 ≡ x = ap (λ n. getD (set counts m x) n 0) q ∙ getD-set-same counts m x 0 (omega arith) in
-            let more = countBy-more-yes (reads net) list i d h (eq-eqb net (getD list i d .net) (q ∙ e)) in
-            let old : getD counts m 0 ≡ readIn (take i list) net = ap (λ n. getD counts n 0) (sym q) ∙ inv net l in
-            here ∙ s ∙ ap (λ n. n + 1) old ∙ sym more)
-      (λ q. let more = countBy-more-no (reads net) list i d h (ne-eqb net (getD list i d .net) (λ z. q (z ∙ sym e))) in
-            getD-set-other counts m net x 0 q ∙ inv net l ∙ sym more)
-      (cases-eq net m)
+    (λ q. let here : getD (set counts m x) net 0 ≡ x = ap (λ n. getD (set counts m x) n 0) q ∙ getD-set-same counts m x 0 (omega arith) in
+    let more = countBy-more-yes (reads net) list i d h (eq-eqb net (getD list i d .net) (q ∙ e)) in
+    let old : getD counts m 0 ≡ readIn (take i list) net = ap (λ n. getD counts n 0) (sym q) ∙ inv net l in
+    here ∙ s ∙ ap (λ n. n + 1) old ∙ sym more)
+    (λ q. let more = countBy-more-no (reads net) list i d h (ne-eqb net (getD list i d .net) (λ z. q (z ∙ sym e))) in
+    getD-set-other counts m net x 0 q ∙ inv net l ∙ sym more)
+    (cases-eq net m)
 
 -- ---- the readers that share their net, one reader more
 
@@ -115,8 +115,8 @@ gates-on-card : (j : ℕ) (gs : List Gate) → j + length gs ≤ 256 → Ordered
 gates-on-card j [] h o = tt
 gates-on-card j (g ∷ gs) h o =
     all-append OnCard (pinReaders j 0 (pinsOf g)) (gateReaders (suc j) gs)
-      (pins-on-card j j 0 (pinsOf g) (omega arith) (ap (λ m. allBelow m (pinsOf g)) (sym (add-zero j)) ∙ o 0 g (omega arith)))
-      (gates-on-card (suc j) gs (omega arith) (ordered-rest j g gs o))
+    (pins-on-card j j 0 (pinsOf g) (omega arith) (ap (λ m. allBelow m (pinsOf g)) (sym (add-zero j)) ∙ o 0 g (omega arith)))
+    (gates-on-card (suc j) gs (omega arith) (ordered-rest j g gs o))
 
 -- the same of an equal list
 pub at-same : (list all : List Reader) → list ≡ all → ((i : ℕ) (d : Reader) → i < length all → getD all i d .net < 256) → (i : ℕ) (d : Reader) → i < length list → getD list i d .net < 256

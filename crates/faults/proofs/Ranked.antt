@@ -1,7 +1,7 @@
 -- Lists that rise by a relation: each element stands before all that come later.
-use mathlib.Core.Path.{_≡_, refl}
+use mathlib.Core.Path.{_≡_}
 use mathlib.Core.List.{List, [], _∷_, _++_}
-use mathlib.Core.Bool.{Bool, true, false, cond}
+use mathlib.Core.Bool.{Bool}
 use Prim.Native.Nat.{ℕ, zero, suc, _<_}
 use native.Mathlib.Omega.{arith}
 use Rattle.std.specs.shelf.Lists.{All, kept-by}
@@ -9,6 +9,7 @@ use Rattle.std.specs.shelf.Maps.{nth}
 use Rattle.std.specs.declared.option.Option.the-variants.{Some}
 use Rattle.std.proofs.shelf.Elements.{all-append, all-kept-by}
 use Rattle.std.proofs.shelf.Tests.{cond-both}
+use Rattle.faults.proofs.Placed.{all-nth}
 
 module _ {X : Type 0} (R : X → X → Type 0) where
   abbrev pub Rising : List X → Type 0
@@ -23,13 +24,8 @@ module _ {X : Type 0} (R : X → X → Type 0) where
   rising-kept p [] a = tt
   rising-kept p (x ∷ xs) a =
       cond-both (p x) (x ∷ kept-by p xs) (kept-by p xs) Rising
-        (λ e. (all-kept-by p (R x) xs (a .0), rising-kept p xs (a .1)))
-        (λ e. rising-kept p xs (a .1))
-
-  all-nth : (P : X → Type 0) (xs : List X) (i : ℕ) (y : X) → All P xs → nth xs i ≡ Some y → P y
-  all-nth P [] i y a e = absurd (let z : _≡_ {A = ℕ} 0 1 = cc in omega arith)
-  all-nth P (x ∷ xs) zero y a e = let q : x ≡ y = cc in rw (← q) (a .0)
-  all-nth P (x ∷ xs) (suc i) y a e = all-nth P xs i y (a .1) e
+      (λ e. (all-kept-by p (R x) xs (a .0), rising-kept p xs (a .1)))
+      (λ e. rising-kept p xs (a .1))
 
   pub rising-at : (xs : List X) (i j : ℕ) (x y : X) → Rising xs → i < j → nth xs i ≡ Some x → nth xs j ≡ Some y → R x y
   rising-at [] i j x y a h p q = absurd (let z : _≡_ {A = ℕ} 0 1 = cc in omega arith)

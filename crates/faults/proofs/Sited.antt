@@ -1,14 +1,14 @@
 -- The laws of the sites: which lines they have, in which order, and which pins are among them.
 use mathlib.Core.Path.{_≡_, refl, sym, _∙_, ap, ap₂, subst}
-use mathlib.Core.List.{List, [], _∷_, _++_, map}
+use mathlib.Core.List.{List, [], _∷_}
 use mathlib.Core.Bool.{Bool, true, false, cond}
-use mathlib.Core.Logic.{_⊎_, inl, inr, ⊎-elim, _↔_}
+use mathlib.Core.Logic.{_⊎_, inl, inr, ⊎-elim}
 use Prim.Native.Nat.{ℕ, zero, suc, _+_, _-_, _*_, _/_, _%_, _<_, _≤_}
 use native.Mathlib.Nat.{add-zero, add-suc, suc-add}
 use native.Mathlib.Omega.{arith}
 use lib.Dec.{eqb, leb, ltb}
 use lib.ListN.{length, getD}
-use Rattle.std.specs.shelf.Lists.{All, countBy, kept-by, sumBy}
+use Rattle.std.specs.shelf.Lists.{All, sumBy}
 use Rattle.std.specs.shelf.Maps.{nth}
 use Rattle.std.specs.declared.option.Option.the-variants.{Some, None}
 use Rattle.std.specs.declared.option.Option.{Option}
@@ -17,7 +17,7 @@ use Rattle.std.proofs.shelf.Elements.{all-append, all-kept-by, all-weaker, kept
 use Rattle.std.proofs.shelf.Lists.{length-map}
 use Rattle.std.proofs.shelf.Maps.{nth-getD, nth-past}
 use Rattle.std.proofs.shelf.Sums.{sumBy-append, sumBy-cons}
-use Rattle.std.proofs.shelf.Tests.{cases-lt, cases-order, cond-both, cond-false, cond-true, false≢true, le-leb, le-ltb, leb-true, lt-ltb}
+use Rattle.std.proofs.shelf.Tests.{cases-lt, cases-order, cond-false, cond-true, le-leb, le-ltb, leb-true, lt-ltb}
 use Rattle.std.proofs.shelf.Ways.{tells}
 use Rattle.card.specs.declared.gate.Gate.{Gate}
 use Rattle.card.specs.Alikes.{times}
@@ -28,23 +28,10 @@ use Rattle.signal.specs.declared.line.Stuck.{Stuck}
 use Rattle.faults.specs.declared.reader.Reader.{Reader}
 use Rattle.faults.specs.Readers.{branches, gateReaders, pinReaders, readCount, readIn, readers, reads}
 use Rattle.faults.specs.SiteLaws.{Before, IsPin, IsSite, PinReads, SiteLaws}
-use Rattle.faults.specs.Sites.{branchLines, faultCount, lineOf, siteCount, stuckAt, stuckOf}
+use Rattle.faults.specs.Sites.{branchLines, lineOf, siteCount, stuckAt, stuckOf}
 use Rattle.faults.proofs.Listed.{length-branches}
+use Rattle.faults.proofs.Placed.{In, all-nth, has-kept, has-nth, in-append-left, in-append-right, map-nth, nth-map}
 use Rattle.faults.proofs.Ranked.{Rising, rising-append, rising-at, rising-kept}
-
--- an element stands in a list
-abbrev In : {X : Type 0} → List X → X → Type 0
-In [] x = ⊥
-In (y ∷ ys) x = (y ≡ x) ⊎ In ys x
-
-in-append-left : {X : Type 0} (xs ys : List X) (x : X) → In xs x → In (xs ++ ys) x
-in-append-left [] ys x h = absurd h
-in-append-left (y ∷ xs) ys x (inl e) = inl e
-in-append-left (y ∷ xs) ys x (inr h) = inr (in-append-left xs ys x h)
-
-in-append-right : {X : Type 0} (xs ys : List X) (x : X) → In ys x → In (xs ++ ys) x
-in-append-right [] ys x h = h
-in-append-right (y ∷ xs) ys x h = inr (in-append-right xs ys x h)
 
 abbrev First : Reader → Reader → Type 0
 First r s = Before (r .line) (s .line)
@@ -105,7 +92,7 @@ gates-have j (g ∷ gs) zero p net r =
     in-append-left (pinReaders j 0 (pinsOf g)) (gateReaders (suc j) gs) _ here
 gates-have j (g ∷ gs) (suc i) p net r =
     in-append-right (pinReaders j 0 (pinsOf g)) (gateReaders (suc j) gs) _
-      (subst (λ (m : ℕ). In (gateReaders (suc j) gs) (record { line = Pin m p; net = net })) (suc-add j i ∙ sym (add-suc j i)) (gates-have (suc j) gs i p net r))
+    (subst (λ (m : ℕ). In (gateReaders (suc j) gs) (record { line = Pin m p; net = net })) (suc-add j i ∙ sym (add-suc j i)) (gates-have (suc j) gs i p net r))
 
 -- what a reader of the list is
 abbrev IsPinOf : ℕ → List Gate → Reader → Type 0
@@ -116,20 +103,20 @@ pins-are j p [] = tt
 pins-are j p (x ∷ xs) = (
   (0, refl, ap (Pin j) (sym (add-zero p))),
   all-weaker (λ r. (q : ℕ) × (nth xs q ≡ Some (r .net)) × (r .line ≡ Pin j (suc p + q))) (λ r. (q : ℕ) × (nth (x ∷ xs) q ≡ Some (r .net)) × (r .line ≡ Pin j (p + q)))
-    (λ r a. (suc (a .0), a .1, a .2 ∙ ap (Pin j) (suc-add p (a .0) ∙ sym (add-suc p (a .0)))))
-    (pinReaders j (suc p) xs) (pins-are j (suc p) xs),
+      (λ r a. (suc (a .0), a .1, a .2 ∙ ap (Pin j) (suc-add p (a .0) ∙ sym (add-suc p (a .0)))))
+      (pinReaders j (suc p) xs) (pins-are j (suc p) xs),
 )
 
 gates-are : (j : ℕ) (gs : List Gate) → All (IsPinOf j gs) (gateReaders j gs)
 gates-are j [] = tt
 gates-are j (g ∷ gs) =
     all-append (IsPinOf j (g ∷ gs)) (pinReaders j 0 (pinsOf g)) (gateReaders (suc j) gs)
-      (all-weaker (λ r. (q : ℕ) × (nth (pinsOf g) q ≡ Some (r .net)) × (r .line ≡ Pin j (0 + q))) (IsPinOf j (g ∷ gs))
-        (λ r a. (0, a .0, (g, refl, a .1), a .2 ∙ ap₂ Pin (sym (add-zero j)) (omega arith)))
-        (pinReaders j 0 (pinsOf g)) (pins-are j 0 (pinsOf g)))
-      (all-weaker (IsPinOf (suc j) gs) (IsPinOf j (g ∷ gs))
-        (λ r a. (suc (a .0), a .1, a .2, a .3 ∙ ap (λ (m : ℕ). Pin m (a .1)) (suc-add j (a .0) ∙ sym (add-suc j (a .0)))))
-        (gateReaders (suc j) gs) (gates-are (suc j) gs))
+    (all-weaker (λ r. (q : ℕ) × (nth (pinsOf g) q ≡ Some (r .net)) × (r .line ≡ Pin j (0 + q))) (IsPinOf j (g ∷ gs))
+    (λ r a. (0, a .0, (g, refl, a .1), a .2 ∙ ap₂ Pin (sym (add-zero j)) (omega arith)))
+    (pinReaders j 0 (pinsOf g)) (pins-are j 0 (pinsOf g)))
+    (all-weaker (IsPinOf (suc j) gs) (IsPinOf j (g ∷ gs))
+    (λ r a. (suc (a .0), a .1, a .2, a .3 ∙ ap (λ (m : ℕ). Pin m (a .1)) (suc-add j (a .0) ∙ sym (add-suc j (a .0)))))
+    (gateReaders (suc j) gs) (gates-are (suc j) gs))
 
 branches-are : (c : Netlist) → All (IsPinOf (c .inputs) (c .gates)) (branches c)
 branches-are c = all-kept-by (λ r. leb 2 (readCount c (r .net))) (IsPinOf (c .inputs) (c .gates)) (readers c) (gates-are (c .inputs) (c .gates))
@@ -148,37 +135,6 @@ gates-read net j (g ∷ gs) =
     ∙ sym (sumBy-cons (λ h. times net (pinsOf h)) g gs)
 
 -- ---- the lines by number
-
-module _ {X : Type 0} where
-  pub has-nth : (xs : List X) (x : X) → In xs x → (i : ℕ) × (nth xs i ≡ Some x)
-  has-nth [] x h = absurd h
-  has-nth (y ∷ ys) x (inl e) = (0, ap Some e)
-  has-nth (y ∷ ys) x (inr h) = let r = has-nth ys x h in (suc (r .0), r .1)
-
-  pub all-nth : (P : X → Type 0) (xs : List X) (i : ℕ) (x : X) → All P xs → nth xs i ≡ Some x → P x
-  all-nth P [] i x a e = absurd (let z : _≡_ {A = ℕ} 0 1 = cc in omega arith)
-  all-nth P (y ∷ ys) zero x a e = let q : y ≡ x = cc in subst P q (a .0)
-  all-nth P (y ∷ ys) (suc i) x a e = all-nth P ys i x (a .1) e
-
-  pub nth-below : (xs : List X) (i : ℕ) (x : X) → nth xs i ≡ Some x → i < length xs
-  nth-below [] i x e = absurd (let z : _≡_ {A = ℕ} 0 1 = cc in omega arith)
-  nth-below (y ∷ ys) zero x e = omega arith
-  nth-below (y ∷ ys) (suc i) x e = let h = nth-below ys i x e in omega arith
-
-  pub has-kept : (p : X → Bool) (xs : List X) (x : X) → In xs x → p x ≡ true → In (kept-by p xs) x
-  has-kept p [] x h t = h
-  has-kept p (y ∷ ys) x (inl e) t = subst (λ (zs : List X). In zs x) (sym (cond-true (p y) (y ∷ kept-by p ys) (kept-by p ys) (ap p e ∙ t))) (inl e)
-  has-kept p (y ∷ ys) x (inr h) t = cond-both (p y) (y ∷ kept-by p ys) (kept-by p ys) (λ zs. In zs x) (λ e. inr (has-kept p ys x h t)) (λ e. has-kept p ys x h t)
-
-pub nth-map : {X Y : Type 0} (f : X → Y) (xs : List X) (i : ℕ) (y : Y) → nth (map f xs) i ≡ Some y → (x : X) × (nth xs i ≡ Some x) × (f x ≡ y)
-nth-map f [] i y e = absurd (let z : _≡_ {A = ℕ} 0 1 = cc in omega arith)
-nth-map f (x ∷ xs) zero y e = (x, refl, cc)
-nth-map f (x ∷ xs) (suc i) y e = nth-map f xs i y e
-
-pub map-nth : {X Y : Type 0} (f : X → Y) (xs : List X) (i : ℕ) (x : X) → nth xs i ≡ Some x → nth (map f xs) i ≡ Some (f x)
-map-nth f [] i x e = absurd (let z : _≡_ {A = ℕ} 0 1 = cc in omega arith)
-map-nth f (w ∷ xs) zero x e = let q : w ≡ x = cc in ap (λ v. Some (f v)) q
-map-nth f (w ∷ xs) (suc i) x e = map-nth f xs i x e
 
 module _ (c : Netlist) where
   abbrev n : ℕ
@@ -202,7 +158,7 @@ module _ (c : Netlist) where
   branch-read bs site k r e q h l g =
       line-past-nets site (omega arith)
       ∙ map-nth (λ s. s .line) (branches c) (site - n) r
-          (ap₂ nth (sym e) (ap (λ (m : ℕ). site - m) (sym q)) ∙ nth-getD bs (site - k) r l ∙ ap Some (sym g))
+      (ap₂ nth (sym e) (ap (λ (m : ℕ). site - m) (sym q)) ∙ nth-getD bs (site - k) r l ∙ ap Some (sym g))
 
   pub few-sites : Lawful c → siteCount c ≤ 766
   few-sites r = let b = length-branches c in let s = r .some-input in let f = r .nets-fit in omega arith
@@ -212,20 +168,20 @@ module _ (c : Netlist) where
   pub in-order : (i j : ℕ) (l m : Line) → i < j → lineOf c i ≡ Some l → lineOf c j ≡ Some m → Before l m
   in-order i j l m h p q = ⊎-elim
       (λ (jn : j < nets c).
-        let a : Net i ≡ l = let e = line-of-net i (omega arith) in cc in
-        let b : Net j ≡ m = let e = line-of-net j jn in cc in
-        subst (λ (x : Line). Before x m) a (subst (λ (x : Line). Before (Net i) x) b h))
+      let a : Net i ≡ l = let e = line-of-net i (omega arith) in cc in
+      let b : Net j ≡ m = let e = line-of-net j jn in cc in
+      subst (λ (x : Line). Before x m) a (subst (λ (x : Line). Before (Net i) x) b h))
       (λ (nj : nets c ≤ j). let s = branch-at j m nj q in ⊎-elim
-        (λ (i-n : i < nets c).
-          let a : Net i ≡ l = let e = line-of-net i i-n in cc in
-          let t = all-nth (IsPinOf (c .inputs) (c .gates)) (branches c) (j - n) (s .0) (branches-are c) (s .1) in
-          let b : Pin (c .inputs + t .0) (t .1) ≡ m = sym (t .3) ∙ s .2 in
-          subst (λ (x : Line). Before x m) a (subst (λ (x : Line). Before (Net i) x) b tt))
-        (λ (ni : nets c ≤ i).
-          let r = branch-at i l ni p in
-          let f = rising-at First (branches c) (i - n) (j - n) (r .0) (s .0) (rising-branches c) (omega arith) (r .1) (s .1) in
-          subst (λ (x : Line). Before x m) (r .2) (subst (λ (x : Line). Before (r .0 .line) x) (s .2) f))
-        (cases-lt i (nets c)))
+      (λ (i-n : i < nets c).
+      let a : Net i ≡ l = let e = line-of-net i i-n in cc in
+      let t = all-nth (IsPinOf (c .inputs) (c .gates)) (branches c) (j - n) (s .0) (branches-are c) (s .1) in
+      let b : Pin (c .inputs + t .0) (t .1) ≡ m = sym (t .3) ∙ s .2 in
+      subst (λ (x : Line). Before x m) a (subst (λ (x : Line). Before (Net i) x) b tt))
+      (λ (ni : nets c ≤ i).
+      let r = branch-at i l ni p in
+      let f = rising-at First (branches c) (i - n) (j - n) (r .0) (s .0) (rising-branches c) (omega arith) (r .1) (s .1) in
+      subst (λ (x : Line). Before x m) (r .2) (subst (λ (x : Line). Before (r .0 .line) x) (s .2) f))
+      (cases-lt i (nets c)))
       (cases-lt j (nets c))
 
   pub irreflexive : (l : Line) → Before l l → ⊥
@@ -249,7 +205,9 @@ module _ (c : Netlist) where
       let s = branch-at j l h e in
       let t = all-nth (IsPinOf (c .inputs) (c .gates)) (branches c) (j - n) (s .0) (branches-are c) (s .1) in
       record {
-        gate = t .0; pin = t .1; net = s .0 .net;
+        gate = t .0;
+        pin = t .1;
+        net = s .0 .net;
         reads = record { gate = t .2 .0; is-gate = t .2 .1; is-pin = t .2 .2 };
         is = sym (s .2) ∙ t .3;
       }
@@ -265,16 +223,16 @@ module _ (c : Netlist) where
   site-shared i p net r (j, e) = ⊎-elim
       (λ a. absurd (let q = line-of-net j a in let z : _≡_ {A = ℕ} 0 1 = cc in omega arith))
       (λ a.
-        let s = branch-at j (Pin (c .inputs + i) p) a e in
-        let t = all-nth (IsPinOf (c .inputs) (c .gates)) (branches c) (j - n) (s .0) (branches-are c) (s .1) in
-        let u = leb-true 2 (readCount c (s .0 .net)) (all-nth (λ x. leb 2 (readCount c (x .net)) ≡ true) (branches c) (j - n) (s .0) (kept-by-passes (λ x. leb 2 (readCount c (x .net))) (readers c)) (s .1)) in
-        let same : Pin (c .inputs + t .0) (t .1) ≡ Pin (c .inputs + i) p = sym (t .3) ∙ s .2 in
-        let gates : c .inputs + t .0 ≡ c .inputs + i = cc in
-        let pins : t .1 ≡ p = cc in
-        let gi : t .0 ≡ i = omega arith in
-        let g : t .2 .0 ≡ r .gate = let x = t .2 .1 in let y = r .is-gate in let z : nth (c .gates) (t .0) ≡ nth (c .gates) i = ap (nth (c .gates)) gi in cc in
-        let nn : s .0 .net ≡ net = let x = t .2 .2 in let y = r .is-pin in let z : nth (pinsOf (t .2 .0)) (t .1) ≡ nth (pinsOf (r .gate)) p = ap₂ (λ (w : Gate) (m : ℕ). nth (pinsOf w) m) g pins in cc in
-        subst (λ (m : ℕ). 2 ≤ readCount c m) nn u)
+      let s = branch-at j (Pin (c .inputs + i) p) a e in
+      let t = all-nth (IsPinOf (c .inputs) (c .gates)) (branches c) (j - n) (s .0) (branches-are c) (s .1) in
+      let u = leb-true 2 (readCount c (s .0 .net)) (all-nth (λ x. leb 2 (readCount c (x .net)) ≡ true) (branches c) (j - n) (s .0) (kept-by-passes (λ x. leb 2 (readCount c (x .net))) (readers c)) (s .1)) in
+      let same : Pin (c .inputs + t .0) (t .1) ≡ Pin (c .inputs + i) p = sym (t .3) ∙ s .2 in
+      let gates : c .inputs + t .0 ≡ c .inputs + i = cc in
+      let pins : t .1 ≡ p = cc in
+      let gi : t .0 ≡ i = omega arith in
+      let g : t .2 .0 ≡ r .gate = let x = t .2 .1 in let y = r .is-gate in let z : nth (c .gates) (t .0) ≡ nth (c .gates) i = ap (nth (c .gates)) gi in cc in
+      let nn : s .0 .net ≡ net = let x = t .2 .2 in let y = r .is-pin in let z : nth (pinsOf (t .2 .0)) (t .1) ≡ nth (pinsOf (r .gate)) p = ap₂ (λ (w : Gate) (m : ℕ). nth (pinsOf w) m) g pins in cc in
+      subst (λ (m : ℕ). 2 ≤ readCount c m) nn u)
       (cases-lt j n)
 
 -- ---- faults

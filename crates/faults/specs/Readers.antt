@@ -7,7 +7,6 @@ use lib.Dec.{eqb, leb}
 use Rattle.std.specs.shelf.Lists.{countBy, kept-by}
 use Rattle.card.specs.declared.gate.Gate.{Gate}
 use Rattle.card.specs.Netlists.{Netlist, pinsOf}
-use Rattle.signal.specs.declared.line.Line.{Line}
 use Rattle.signal.specs.declared.line.Line.the-variants.{Pin}
 use Rattle.faults.specs.declared.reader.Reader.{Reader}
 

@@ -1,7 +1,7 @@
 -- Thinning: each input's cell, in rising order, is tried free on top of those freed so far, and stays free if the vector still catches the fault.
 use mathlib.Core.Path.{_≡_}
-use mathlib.Core.Bool.{true, cond}
-use Prim.Native.Nat.{ℕ, zero, suc}
+use mathlib.Core.Bool.{true, false, cond}
+use Prim.Native.Nat.{ℕ, zero, suc, _<_}
 use Rattle.card.specs.Netlists.{Netlist}
 use Rattle.signal.specs.declared.line.Stuck.{Stuck}
 use Rattle.vectors.specs.Freeing.{freed}
@@ -17,7 +17,6 @@ abbrev pub thinned : Netlist → Stuck → Cells → ℕ → Cells
 thinned c s v zero = v
 thinned c s v (suc n) = tried c s (thinned c s v n) n
 
--- every fixed cell of w is fixed in v too, to the same bit
-pub record FixedAsIn (v w : Cells) : Type 0 where
-  pub fixed : (j : ℕ) → bitAt (w .care) j ≡ true → bitAt (v .care) j ≡ true
-  pub same-bit : (j : ℕ) → bitAt (w .care) j ≡ true → bitAt (w .value) j ≡ bitAt (v .value) j
+-- no cell that is still fixed can be freed without losing the catch
+abbrev pub NoneToFree : Netlist → Stuck → Cells → Type 0
+NoneToFree c s v = (j : ℕ) → j < c .inputs → bitAt (v .care) j ≡ true → catches c s (freed v j) ≡ false

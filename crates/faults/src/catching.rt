@@ -6,9 +6,10 @@ ghost use mathlib.Core.List.{List};
 ghost use Rattle.std.specs.Orderings.{Decides};
 ghost use Rattle.card.specs.Netlists.{allBelow};
 ghost use Rattle.card.specs.Views.{netlistOf};
-ghost use Rattle.vectors.specs.Vectors.{Fills};
+ghost use Rattle.vectors.specs.Extending.{Extends};
+ghost use Rattle.vectors.specs.Vectors.{Cells, Fills};
 ghost use Rattle.vectors.specs.Views.{cellsOf};
-ghost use Rattle.faults.specs.Catching.{AllFixed, catches as catchesOf, opposite as oppositeOf, oppositeSomewhere, ShownByEveryFilling, ternaryNets};
+ghost use Rattle.faults.specs.Catching.{AllFixed, catches as catchesOf, opposite as oppositeOf, oppositeSomewhere, ShownByEveryFilling};
 ghost use Rattle.faults.specs.Showing.{Shows};
 use card::netlist::Card;
 use signal::line::Stuck;
@@ -44,6 +45,7 @@ fn opposite_somewhere(outputs: &[u16], good: &[Ternary; 256], faulty: &[Ternary;
 pub fn catches(card: &Card, stuck: Stuck, vector: &Vector) -> bool
     ensures says_whether_good_and_faulty_are_opposite_at_an_output { λ r. ⌜ r ≡ catchesOf (netlistOf (now (card .entry))) stuck (cellsOf (now (vector .entry))) ⌝ }
     ensures a_catch_is_shown_by_every_filling_at_one_output { λ r. ⌜ (r ≡ true → ShownByEveryFilling (netlistOf (now (card .entry))) stuck (cellsOf (now (vector .entry)))) ⌝ }
+    ensures what_extends_the_vector_catches_too { λ r. ⌜ (r ≡ true → (v : Cells) → Extends v (cellsOf (now (vector .entry))) → catchesOf (netlistOf (now (card .entry))) stuck v ≡ true) ⌝ }
     ensures without_free_cells_a_catch_is_a_showing { λ r. let c = netlistOf (now (card .entry)) in ⌜ (AllFixed (c .inputs) (cellsOf (now (vector .entry))) → (bits : List Bool) → Fills (c .inputs) (cellsOf (now (vector .entry))) bits → Decides r (Shows c stuck bits)) ⌝ }
 {
     let mut good = [Ternary::X; 256];

@@ -41,11 +41,17 @@ impl FaultModel {
         let level = fault % 2 == 1;
         let nets = self.card.nets();
         if site < nets {
-            return Ok(Stuck { line: Line::Net(site as u16), level });
+            return Ok(Stuck {
+                line: Line::Net(site as u16),
+                level,
+            });
         }
         if site - nets < self.branches.len() {
             let branch = self.branches[site - nets];
-            return Ok(Stuck { line: branch.line, level });
+            return Ok(Stuck {
+                line: branch.line,
+                level,
+            });
         }
         Err(FaultRefusal::NoSuchFault)
     }

@@ -23,7 +23,11 @@ impl<'a> Trial<'a> {
     {
         let before = *vector;
         *vector = before.freed(input);
-        Trial { vector, before, kept: false }
+        Trial {
+            vector,
+            before,
+            kept: false,
+        }
     }
 
     // Lets the cell stay free.
@@ -51,6 +55,10 @@ impl Drop for Trial<'_> {
         if !self.kept {
             *self.vector = self.before;
         }
-        let Trial { vector: _, before: _, kept: _ } = self;
+        let Trial {
+            vector: _,
+            before: _,
+            kept: _,
+        } = self;
     }
 }

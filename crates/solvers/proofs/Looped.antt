@@ -51,14 +51,15 @@ module _ (cs : List (List ℤ)) (budget : ℕ) (start : Setting) where
         rising = rising-more 0 (length t) (length u) ch l (k .rising);
         opened = subst OpenFrames (sym f) (k .opened);
         room = omega (arith, g .room, k .room);
-        long = g .long ∙ k .long }
+        long = g .long ∙ k .long;
+      }
 
   choice-of : (b : Setting) (j : ℕ) → lowestOpen b ≡ Some j → lowest b ≡ Some (record { var = j; bit = false })
   choice-of b j e = ap toZero e
 
   -- a choice
   pub loop-decide : (a b : Setting) (t : List ℤ) (ch : List Decision) (s : ℕ) (j : ℕ) (l : ℤ) (c : Decision) → Kept cs budget start a b t ch s → b ≡ closure cs a → violated (closure cs a) cs ≡ false → lowestOpen b ≡ Some j → s < budget → place l ≡ j → wants l ≡ false → c .at ≡ length t → c .var ≡ j
-    → Kept cs budget start (made b l) (made b l) (t ++ (l ∷ [])) (ch ++ (c ∷ [])) (suc s)
+      → Kept cs budget start (made b l) (made b l) (t ++ (l ∷ [])) (ch ++ (c ∷ [])) (suc s)
   loop-decide a b t ch s j l c k eb v lo h pl wl ca cv =
       let e = choice-of b j lo in
       let o : at b j ≡ None = lowest-law .0 .opens b _ e in
@@ -76,7 +77,8 @@ module _ (cs : List (List ℤ)) (budget : ℕ) (start : Setting) where
         rising = rising-push 0 (length (t ++ (l ∷ []))) ch c (subst (λ n. Rising 0 n ch) (sym ca) (k .rising)) (simp length-append (omega (arith, ca)));
         opened = subst OpenFrames (sym f) (open-push (framesOf b t ch) (record { base = b; choice = record { var = j; bit = false } }) (k .opened) o);
         room = n .room;
-        long = n .long }
+        long = n .long;
+      }
     where
       drop-all : (t u : List ℤ) → drop (length t) (t ++ u) ≡ u
       drop-all [] u = refl
@@ -84,7 +86,7 @@ module _ (cs : List (List ℤ)) (budget : ℕ) (start : Setting) where
 
   -- a turn
   pub loop-turn : (a b : Setting) (t : List ℤ) (ch gs : List Decision) (c : Decision) (s : ℕ) (l : ℤ) → Kept cs budget start a b t ch s → violated (closure cs a) cs ≡ true → ch ≡ gs ++ (c ∷ []) → s < budget → place l ≡ c .var → wants l ≡ true
-    → Kept cs budget start (made (unmadeAll b (drop (c .at) t)) l) (made (unmadeAll b (drop (c .at) t)) l) (take (c .at) t ++ (l ∷ [])) gs (suc s)
+      → Kept cs budget start (made (unmadeAll b (drop (c .at) t)) l) (made (unmadeAll b (drop (c .at) t)) l) (take (c .at) t ++ (l ∷ [])) gs (suc s)
   loop-turn a b t ch gs c s l k v ec h pl wl =
       let base = unmadeAll b (drop (c .at) t) in
       let r = rising-last 0 (length t) gs c (subst (Rising 0 (length t)) ec (k .rising)) in
@@ -104,7 +106,8 @@ module _ (cs : List (List ℤ)) (budget : ℕ) (start : Setting) where
         rising = subst (λ n. Rising 0 n gs) (sym lt) (r .0);
         opened = subst OpenFrames (sym fu) (os .0);
         room = omega (arith, lt, ld, eo, ou, k .room, r .1);
-        long = lb ∙ k .long } in
+        long = lb ∙ k .long;
+      } in
       loop-grown (made base l) base (made base l) (take (c .at) t) (take (c .at) t ++ (l ∷ [])) gs (suc s) k1 (grown-more base base (take (c .at) t) (take (c .at) t) l (grown-none base (take (c .at) t)) ol)
 
   -- the ways out

@@ -65,7 +65,7 @@ written-after xs m [] h = let z : m - 0 ≡ m = omega arith in rw z
 written-after xs zero (b ∷ bs) h = absurd (not-suc-le-zero h)
 written-after xs (suc m) (b ∷ bs) h =
     let p : set (xs ++ (None ∷ replicate m None)) (length xs) (Some b) ≡ (xs ++ (Some b ∷ [])) ++ replicate m None = set-at xs None (replicate m None) (Some b) (length xs) refl ∙ sym (append-assoc xs (Some b ∷ []) (replicate m None)) in
-    let q : suc (length xs) ≡ length (xs ++ (Some b ∷ [])) = sym (length-append xs (Some b ∷ [])  ∙ omega arith) in
+    let q : suc (length xs) ≡ length (xs ++ (Some b ∷ [])) = sym (length-append xs (Some b ∷ []) ∙ omega arith) in
     let z : suc m - suc (length bs) ≡ m - length bs = omega arith in
     ap₂ (λ (a : Setting) (j : ℕ). written a j bs) p q
     ∙ written-after (xs ++ (Some b ∷ [])) m bs (omega arith)

@@ -29,6 +29,7 @@ module _ (rule : Rule) (law : Picks rule) (cs : List (List ℤ)) (budget : ℕ) 
     inner (Some c) e =
         let o = law .opens b c e in
         ap₂ (λ (p q : ℕ → Answer). orElse (step budget s p) (λ t. step budget t q)) (h (c .var) (c .bit) o) (h (c .var) (not (c .bit)) o)
+
     outer : (v : Bool) → unlessBroken v s (λ _. chosen (rule b) b s (both budget f b s)) ≡ unlessBroken v s (λ _. chosen (rule b) b s (both budget g b s))
     outer true = refl
     outer false = inner (rule b) refl
@@ -39,6 +40,7 @@ module _ (rule : Rule) (law : Picks rule) (cs : List (List ℤ)) (budget : ℕ) 
     inner : (o : Option Choice) → rule b ≡ o → found b s ≡ chosen o b s (both budget f b s)
     inner None e = refl
     inner (Some c) e = let o = law .opens b c e in let p = open-some b (length b) (c .var) o (open-inside b (c .var) o) in absurd (omega arith)
+
     outer : (v : Bool) → unlessBroken v s (λ _. found b s) ≡ unlessBroken v s (λ _. chosen (rule b) b s (both budget f b s))
     outer true = refl
     outer false = inner (rule b) refl
@@ -99,8 +101,9 @@ module _ (rule : Rule) (law : Picks rule) (cs : List (List ℤ)) (budget : ℕ) 
     tired = λ gs f v e h. turn-last fs gs f a s v e ∙ ap (resume rule cs budget gs) (step-off s (deep rule cs budget (turned f)) h) ∙ resume-undecided gs s;
     found = λ v e. ap (resume rule cs budget fs) (deep-chosen a s None v e) ∙ resume-found fs (closure cs a) s;
     choose = λ c v e h. ap (resume rule cs budget fs) (deep-chosen a s (Some c) v e)
-      ∙ ap (λ (x : Answer). resume rule cs budget fs (orElse x (λ t. step budget t (deep rule cs budget (set (closure cs a) (c .var) (Some (not (c .bit)))))))) (step-on s (deep rule cs budget (set (closure cs a) (c .var) (Some (c .bit)))) h)
-      ∙ sym (resume-last fs (record { base = closure cs a; choice = c }) (deep rule cs budget (set (closure cs a) (c .var) (Some (c .bit))) (suc s)));
+        ∙ ap (λ (x : Answer). resume rule cs budget fs (orElse x (λ t. step budget t (deep rule cs budget (set (closure cs a) (c .var) (Some (not (c .bit)))))))) (step-on s (deep rule cs budget (set (closure cs a) (c .var) (Some (c .bit)))) h)
+        ∙ sym (resume-last fs (record { base = closure cs a; choice = c }) (deep rule cs budget (set (closure cs a) (c .var) (Some (c .bit))) (suc s)));
     weary = λ c v e h. ap (resume rule cs budget fs) (deep-chosen a s (Some c) v e)
-      ∙ ap (λ (x : Answer). resume rule cs budget fs (orElse x (λ t. step budget t (deep rule cs budget (set (closure cs a) (c .var) (Some (not (c .bit)))))))) (step-off s (deep rule cs budget (set (closure cs a) (c .var) (Some (c .bit)))) h)
-      ∙ resume-undecided fs s }
+        ∙ ap (λ (x : Answer). resume rule cs budget fs (orElse x (λ t. step budget t (deep rule cs budget (set (closure cs a) (c .var) (Some (not (c .bit)))))))) (step-off s (deep rule cs budget (set (closure cs a) (c .var) (Some (c .bit)))) h)
+        ∙ resume-undecided fs s;
+  }

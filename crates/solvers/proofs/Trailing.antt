@@ -38,7 +38,8 @@ grown-more a b s t l g o =
       trail = ap (λ (x : List ℤ). x ++ (l ∷ [])) (g .trail) ∙ append-assoc s (g .more) (l ∷ []);
       undone = unmade-append (made b l) (g .more) (l ∷ []) ∙ ap (λ (x : Setting). unmadeAll x (g .more)) (unset b (place l) (Some (wants l)) o) ∙ g .undone;
       long = e ∙ g .long;
-      room = simp length-append (omega (arith, g .room)) }
+      room = simp length-append (omega (arith, g .room));
+    }
 
 drop-append : (n : ℕ) (s t : List ℤ) → n ≤ length s → drop n (s ++ t) ≡ drop n s ++ t
 drop-append zero s t h = refl

@@ -9,10 +9,20 @@ ghost use Rattle.solvers.specs.Outcomes.{answered};
 use crate::close::close;
 use crate::decision::Decision;
 use crate::stack::Stack;
-use crate::turn::{decide, lowest_open, turn};
-use solving::{Solved, Verdict};
+use crate::turn::decide;
+use crate::turn::lowest_open;
+use crate::turn::turn;
+use solving::Solved;
+use solving::Verdict;
 
-pub fn backtrack(literals: &[i16], ends: &[usize], values: &mut [Option<bool>], trail: &mut Stack<i16>, decisions: &mut Stack<Decision>, budget: u64) -> Solved
+pub fn backtrack(
+    literals: &[i16],
+    ends: &[usize],
+    values: &mut [Option<bool>],
+    trail: &mut Stack<i16>,
+    decisions: &mut Stack<Decision>,
+    budget: u64,
+) -> Solved
     requires ends { ⌜ Ends (now literals) 0 (now ends) ⌝ }
     requires few { ⌜ length (now values) ≤ 560 ⌝ }
     requires fresh { ⌜ now trail .len ≡ 0 ⌝ }
@@ -22,28 +32,22 @@ pub fn backtrack(literals: &[i16], ends: &[usize], values: &mut [Option<bool>], 
     ensures answers_as_defined { λ r. ⌜ backtracking lowest (clausesFrom (now (literals .entry)) 0 (now (ends .entry))) budget (now (values .entry)) ≡ answered r (now (values .exit)) ⌝ }
 {
     let mut steps = 0;
-    loop {
+    let verdict = loop {
+        let spent = steps >= budget;
         if close(literals, ends, values, trail) {
             match lowest_open(values) {
-                None => return Solved { verdict: Verdict::Found, steps },
-                Some(j) => {
-                    if steps >= budget {
-                        return Solved { verdict: Verdict::Undecided, steps };
-                    }
-                    decide(values, trail, decisions, j);
-                }
+                None => break Verdict::Found,
+                Some(_) if spent => break Verdict::Undecided,
+                Some(j) => decide(values, trail, decisions, j),
             }
         } else {
             match decisions.pop() {
-                None => return Solved { verdict: Verdict::None, steps },
-                Some(d) => {
-                    if steps >= budget {
-                        return Solved { verdict: Verdict::Undecided, steps };
-                    }
-                    turn(values, trail, d);
-                }
+                None => break Verdict::None,
+                Some(_) if spent => break Verdict::Undecided,
+                Some(d) => turn(values, trail, d),
             }
         }
         steps += 1;
-    }
+    };
+    Solved { verdict, steps }
 }

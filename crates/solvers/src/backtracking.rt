@@ -14,8 +14,13 @@ use crate::decision::Decision;
 use crate::outcome::is_found;
 use crate::stack::Stack;
 use crate::store::Store;
-use solving::{AppendFault, Solved, Solver, StartFault, ValueFault};
-use std::alloc::{AllocError, Global};
+use solving::AppendFault;
+use solving::Solved;
+use solving::Solver;
+use solving::StartFault;
+use solving::ValueFault;
+use std::alloc::AllocError;
+use std::alloc::Global;
 
 // Both stacks over what is lent, from every variable open.
 fn run(store: &mut Store, places: &mut [i16], records: &mut [Decision], budget: u64) -> Solved
@@ -27,7 +32,14 @@ fn run(store: &mut Store, places: &mut [i16], records: &mut [Decision], budget: 
     store.reopen();
     let mut trail = Stack::new(places);
     let mut decisions = Stack::new(records);
-    let solved = backtrack(&store.literals, &store.ends, &mut store.values, &mut trail, &mut decisions, budget);
+    let solved = backtrack(
+        &store.literals,
+        &store.ends,
+        &mut store.values,
+        &mut trail,
+        &mut decisions,
+        budget,
+    );
     store.read = is_found(solved.verdict);
     solved
 }
@@ -49,7 +61,11 @@ impl Backtracking {
         let store = Store::new(heap)?;
         let trail = vec![in heap; 0i16; 560]?;
         let decisions = vec![in heap; Decision { at: 0, var: 0 }; 560]?;
-        Ok(Backtracking { store, trail, decisions })
+        Ok(Backtracking {
+            store,
+            trail,
+            decisions,
+        })
     }
 }
 
@@ -69,7 +85,12 @@ pub impl Solver for Backtracking as BacktrackingSolver {
         ensures answers_as_defined { λ r. ⌜ r ≡ told (backtracked (modelOf (now (self .entry) .store)) budget) ⌝ }
         ensures leaves_as_defined { λ _. ⌜ modelOf (now (self .exit) .store) ≡ after (modelOf (now (self .entry) .store)) (backtracked (modelOf (now (self .entry) .store)) budget) ⌝ }
     {
-        run(&mut self.store, &mut self.trail, &mut self.decisions, budget)
+        run(
+            &mut self.store,
+            &mut self.trail,
+            &mut self.decisions,
+            budget,
+        )
     }
 
     fn value(&self, variable: u16) -> Result<bool, ValueFault> {

@@ -11,7 +11,8 @@ ghost use Rattle.solvers.specs.Stacks.{held, room};
 ghost use Rattle.solvers.specs.Scanning.{clausesFrom, Ends};
 ghost use Rattle.solvers.specs.Trails.{Grown};
 use crate::literal::place_of;
-use crate::scan::{scan, Pressing};
+use crate::scan::Pressing;
+use crate::scan::scan;
 use crate::stack::Stack;
 
 // Makes a literal true, and puts it on the trail.
@@ -29,7 +30,12 @@ pub fn make(values: &mut [Option<bool>], trail: &mut Stack<i16>, literal: i16)
 }
 
 // Closure. False where it ends violated.
-pub fn close(literals: &[i16], ends: &[usize], values: &mut [Option<bool>], trail: &mut Stack<i16>) -> bool
+pub fn close(
+    literals: &[i16],
+    ends: &[usize],
+    values: &mut [Option<bool>],
+    trail: &mut Stack<i16>,
+) -> bool
     requires ends { ⌜ Ends (now literals) 0 (now ends) ⌝ }
     requires space { ⌜ now trail .len + openIn (length (now values)) (now values) ≤ room (now trail) ⌝ }
     ensures whole { λ r. ⌜ violated (closure (clausesFrom (now (literals .entry)) 0 (now (ends .entry))) (now (values .entry))) (clausesFrom (now (literals .entry)) 0 (now (ends .entry))) ≡ not r ⌝ }

@@ -7,13 +7,22 @@ ghost use Rattle.solvers.specs.Scanning.{clausesFrom, Ends};
 ghost use Rattle.solvers.specs.Numbering.{bitsOf};
 ghost use Rattle.solvers.specs.Outcomes.{meant, answered};
 use crate::close::close;
-use crate::enter::{enter, power};
+use crate::enter::enter;
+use crate::enter::power;
 use crate::stack::Stack;
 use crate::turn::lowest_open;
-use solving::{Solved, Verdict};
+use solving::Solved;
+use solving::Verdict;
 
 // One setting: none where its closure is violated, found where it sets every variable, else undecided.
-fn try_setting(literals: &[i16], ends: &[usize], values: &mut [Option<bool>], places: &mut [i16], leading: usize, number: u64) -> Verdict
+fn try_setting(
+    literals: &[i16],
+    ends: &[usize],
+    values: &mut [Option<bool>],
+    places: &mut [i16],
+    leading: usize,
+    number: u64,
+) -> Verdict
     requires ends { ⌜ Ends (now literals) 0 (now ends) ⌝ }
     requires inside { ⌜ leading ≤ length (now values) ⌝ }
     requires few { ⌜ leading ≤ 32 ⌝ }
@@ -31,7 +40,14 @@ fn try_setting(literals: &[i16], ends: &[usize], values: &mut [Option<bool>], pl
     }
 }
 
-pub fn count(literals: &[i16], ends: &[usize], values: &mut [Option<bool>], places: &mut [i16], leading: usize, budget: u64) -> Solved
+pub fn count(
+    literals: &[i16],
+    ends: &[usize],
+    values: &mut [Option<bool>],
+    places: &mut [i16],
+    leading: usize,
+    budget: u64,
+) -> Solved
     requires ends { ⌜ Ends (now literals) 0 (now ends) ⌝ }
     requires inside { ⌜ leading ≤ length (now values) ⌝ }
     requires few { ⌜ leading ≤ 32 ⌝ }
@@ -40,18 +56,20 @@ pub fn count(literals: &[i16], ends: &[usize], values: &mut [Option<bool>], plac
 {
     let all = power(leading);
     let mut steps = 0;
-    loop {
+    let verdict = loop {
         if steps >= all {
-            return Solved { verdict: Verdict::None, steps };
+            break Verdict::None;
         }
         if steps >= budget {
-            return Solved { verdict: Verdict::Undecided, steps };
+            break Verdict::Undecided;
         }
-        match try_setting(literals, ends, values, places, leading, steps) {
-            Verdict::None => {}
-            Verdict::Found => return Solved { verdict: Verdict::Found, steps: steps + 1 },
-            Verdict::Undecided => return Solved { verdict: Verdict::Undecided, steps: steps + 1 },
-        }
+        let verdict = try_setting(literals, ends, values, places, leading, steps);
         steps += 1;
-    }
+        match verdict {
+            Verdict::None => {}
+            Verdict::Found => break Verdict::Found,
+            Verdict::Undecided => break Verdict::Undecided,
+        }
+    };
+    Solved { verdict, steps }
 }

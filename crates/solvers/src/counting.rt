@@ -12,8 +12,13 @@ ghost use Rattle.solvers.specs.Stores.{modelOf};
 use crate::count::count;
 use crate::outcome::is_found;
 use crate::store::Store;
-use solving::{AppendFault, Solved, Solver, StartFault, ValueFault};
-use std::alloc::{AllocError, Global};
+use solving::AppendFault;
+use solving::Solved;
+use solving::Solver;
+use solving::StartFault;
+use solving::ValueFault;
+use std::alloc::AllocError;
+use std::alloc::Global;
 
 // The trail over what is lent, from every variable open.
 fn run(store: &mut Store, places: &mut [i16], budget: u64) -> Solved
@@ -23,7 +28,14 @@ fn run(store: &mut Store, places: &mut [i16], budget: u64) -> Solved
 {
     store.reopen();
     let leading = store.leading;
-    let solved = count(&store.literals, &store.ends, &mut store.values, places, leading, budget);
+    let solved = count(
+        &store.literals,
+        &store.ends,
+        &mut store.values,
+        places,
+        leading,
+        budget,
+    );
     store.read = is_found(solved.verdict);
     solved
 }

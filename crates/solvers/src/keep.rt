@@ -1,38 +1,20 @@
-// The calls of a store: start, append and value as the interface of a solver has them, and opening every variable before a search.
+// The calls of a store: start and value as the interface of a solver has them, and opening every variable before a search.
 ghost use mathlib.Core.Path.{_≡_};
-ghost use mathlib.Core.Bool.{cond, false};
-ghost use Prim.Native.Nat.{_≤_};
+ghost use mathlib.Core.Bool.{cond};
 ghost use lib.ListN.{replicate};
 ghost use Rattle.std.specs.Of.Vec.{vec-items, vec-len};
 ghost use Rattle.std.specs.Results.{isOk};
 ghost use Rattle.std.specs.Vec.{made};
 ghost use Rattle.std.specs.declared.option.Option.the-variants.{None};
-ghost use Rattle.solving.specs.Literals.{allInRange, inRange};
-ghost use Rattle.solving.specs.Models.{fresh, begun, longer, reads, startable, appendable};
-ghost use Rattle.solving.specs.Refusals.{started, appended, valued};
+ghost use Rattle.solving.specs.Models.{fresh, begun, reads, startable};
+ghost use Rattle.solving.specs.Refusals.{started, valued};
 ghost use Rattle.solvers.specs.Stores.{modelOf};
 use crate::literal::bit_of;
 use crate::store::Store;
-use solving::{AppendFault, StartFault, ValueFault};
-use std::alloc::{AllocError, Global};
-
-// Not 0, and of one of so many variables.
-fn in_range(literal: i16, variables: usize) -> bool
-    ensures tells_a_literal_in_range { λ r. ⌜ r ≡ inRange variables literal ⌝ }
-{
-    literal != 0 && literal.unsigned_abs() as usize <= variables
-}
-
-fn all_in_range(clause: &[i16], variables: usize) -> bool
-    ensures tells_literals_in_range { λ r. ⌜ r ≡ allInRange variables (now (clause .entry)) ⌝ }
-{
-    for i in 0..clause.len() {
-        if !in_range(clause[i], variables) {
-            return false;
-        }
-    }
-    true
-}
+use solving::StartFault;
+use solving::ValueFault;
+use std::alloc::AllocError;
+use std::alloc::Global;
 
 impl Store {
     pub fn new(heap: Global) -> Result<Store, AllocError>
@@ -41,7 +23,14 @@ impl Store {
         let literals = Vec::with_capacity(heap, 9216)?;
         let ends = Vec::with_capacity(heap, 9216)?;
         let values = Vec::with_capacity(heap, 560)?;
-        Ok(Store { variables: 1, leading: 1, literals, ends, values, read: false })
+        Ok(Store {
+            variables: 1,
+            leading: 1,
+            literals,
+            ends,
+            values,
+            read: false,
+        })
     }
 
     pub fn start(&mut self, variables: u16, leading: u16) -> Result<(), StartFault>
@@ -56,24 +45,6 @@ impl Store {
         self.leading = leading as usize;
         self.literals.clear();
         self.ends.clear();
-        self.read = false;
-        Ok(())
-    }
-
-    pub fn append(&mut self, clause: &[i16]) -> Result<(), AppendFault>
-        ensures answer { λ r. ⌜ r ≡ appended (modelOf (now (self .entry))) (now (clause .entry)) ⌝ }
-        ensures granted { λ r. ⌜ isOk r ≡ appendable (modelOf (now (self .entry))) (now (clause .entry)) ⌝ }
-        ensures state { λ r. ⌜ modelOf (now (self .exit)) ≡ cond (appendable (modelOf (now (self .entry))) (now (clause .entry))) (longer (modelOf (now (self .entry))) (now (clause .entry))) (modelOf (now (self .entry))) ⌝ }
-    {
-        if !all_in_range(clause, self.variables) {
-            return Err(AppendFault::Literal);
-        }
-        if clause.len() >= 9216 - (self.literals.len() + self.ends.len()) {
-            return Err(AppendFault::Places);
-        }
-        let _ = self.literals.extend_from_slice(clause);
-        let end = self.literals.len();
-        self.ends.push_reserved(end);
         self.read = false;
         Ok(())
     }

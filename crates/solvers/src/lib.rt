@@ -1,5 +1,6 @@
 // Two solvers that keep the interface of `solving`, step for step as they are defined there: backtracking and counting.
 // Both close by scanning their clauses; all memory is reserved when a solver is opened.
+mod append;
 mod backtrack;
 mod backtracking;
 mod close;

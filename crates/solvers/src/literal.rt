@@ -21,7 +21,11 @@ pub fn place_of(literal: i16) -> usize
 fn bit_at(values: &[Option<bool>], j: usize) -> Option<bool>
     ensures is_what_stands_there { λ r. ⌜ r ≡ at (now (values .entry)) j ⌝ }
 {
-    if j < values.len() { values[j] } else { Some(false) }
+    if j < values.len() {
+        values[j]
+    } else {
+        Some(false)
+    }
 }
 
 fn worth_of(have: Option<bool>, want: bool) -> Option<bool>

@@ -1,7 +1,8 @@
 // The scan that closure repeats: from the first clause on, literal by literal, to the first clause that is false throughout or unit.
 ghost use mathlib.Core.Path.{_≡_};
 ghost use Rattle.solvers.specs.Scanning.{foremost, clausesFrom, Ends};
-use crate::literal::{join, value_of};
+use crate::literal::join;
+use crate::literal::value_of;
 use solving::State;
 
 // The first clause in the list that is false throughout or unit, by its number.

@@ -56,7 +56,12 @@ fn unwind(values: &mut [Option<bool>], trail: &mut Stack<i16>, to: usize)
 }
 
 // Sets an open variable to 0, and records the decision.
-pub fn decide(values: &mut [Option<bool>], trail: &mut Stack<i16>, decisions: &mut Stack<Decision>, j: usize)
+pub fn decide(
+    values: &mut [Option<bool>],
+    trail: &mut Stack<i16>,
+    decisions: &mut Stack<Decision>,
+    j: usize,
+)
     requires inside { ⌜ j < length (now values) ⌝ }
     requires few { ⌜ length (now values) ≤ 560 ⌝ }
     requires space { ⌜ now trail .len < room (now trail) ⌝ }

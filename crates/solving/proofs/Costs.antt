@@ -62,9 +62,10 @@ to-zero-some None c e = absurd (none-some e)
 to-zero-some (Some j) c e = ap (λ (c : Choice). Some (c .var)) (some-inj e)
 
 pub lowest-law : Lowest
-lowest-law =
-    (record { ends = λ a e. none-open a (to-zero-none (lowestOpen a) e); opens = λ a c e. lowest-open a (c .var) (to-zero-some (lowestOpen a) c e) },
-     λ k a c e h. lowest-leads a (c .var) k (to-zero-some (lowestOpen a) c e) h)
+lowest-law = (
+  record { ends = λ a e. none-open a (to-zero-none (lowestOpen a) e); opens = λ a c e. lowest-open a (c .var) (to-zero-some (lowestOpen a) c e) },
+  λ k a c e h. lowest-leads a (c .var) k (to-zero-some (lowestOpen a) c e) h,
+)
 
 -- what o open leading variables cost
 unfoldable pub cost : ℕ → ℕ
@@ -117,14 +118,19 @@ pub led-whole : (cs : List (List ℤ)) (v k : ℕ) (b : Setting) → Led cs v k 
 led-whole cs v k b led kv lb cl z = go (led bs e) where
   bs : List Bool
   bs = readingOf (take k b)
+
   e : length bs ≡ k
   e = lead-length k b (omega arith)
+
   w : Within (leads v bs) b
   w = rw e (leads-within k (v - k) b (omega arith) z)
+
   c : Within (closure cs (leads v bs)) b
   c = closure-within cs (leads v bs) b w cl
+
   l : length (closure cs (leads v bs)) ≡ length b
   l = closure-length cs (leads v bs) ∙ leads-length v bs (omega (arith, e)) ∙ sym lb
+
   go : (violated (closure cs (leads v bs)) cs ≡ true) ⊎ (openIn v (closure cs (leads v bs)) ≡ 0) → openIn v b ≡ 0
   go (inl h) = absurd (true≢false (sym (violated-kept (closure cs (leads v bs)) b cs c h) ∙ cl .whole))
   go (inr h) = let q = open-le v (closure cs (leads v bs)) b l c in omega arith
@@ -151,12 +157,13 @@ module _ (rule : Rule) (cs : List (List ℤ)) (budget v k : ℕ) (law : Picks ru
   decided-broken limit s rest false h d = d refl
 
   decided-chosen : (deeper : Setting → ℕ → Answer) (b : Setting) (s limit : ℕ) → length b ≡ v → Closed cs b → s + cost (openIn k b) ≤ limit → limit ≤ budget
-    → ((j : ℕ) (x : Bool) (t : ℕ) → at b j ≡ None → t + cost (openIn k (set b j (Some x))) ≤ budget → Decided (t + cost (openIn k (set b j (Some x)))) (deeper (set b j (Some x)) t))
-    → (o : Option Choice) → rule b ≡ o → Decided limit (chosen o b s (both budget deeper b s))
+      → ((j : ℕ) (x : Bool) (t : ℕ) → at b j ≡ None → t + cost (openIn k (set b j (Some x))) ≤ budget → Decided (t + cost (openIn k (set b j (Some x)))) (deeper (set b j (Some x)) t))
+      → (o : Option Choice) → rule b ≡ o → Decided limit (chosen o b s (both budget deeper b s))
   decided-chosen deeper b s limit lb cl h hb rest None p = omega arith
   decided-chosen deeper b s limit lb cl h hb rest (Some c) p = go (decLt (c .var) k) where
     o : at b (c .var) ≡ None
     o = law .opens b c p
+
     go : Dec (c .var < k) → Decided limit (both budget deeper b s c)
     go (yes lt) =
         let j = c .var in
@@ -166,8 +173,8 @@ module _ (rule : Rule) (cs : List (List ℤ)) (budget v k : ℕ) (law : Picks ru
         let ce = ap cost e in
         let m = cost-suc (openIn k (set b j (Some (c .bit)))) (openIn k b) (omega arith) in
         decided-orElse (suc s + cost (openIn k (set b j (Some (c .bit))))) limit (omega arith) (step budget s (deeper (set b j (Some (c .bit))))) _
-          (decided-step _ budget s _ (omega arith) (rest j (c .bit) (suc s) o (omega arith)))
-          (λ t ht. decided-step limit budget t _ (omega arith) (decided-weaker (suc t + cost (openIn k (set b j (Some (not (c .bit)))))) limit (omega arith) _ (rest j (not (c .bit)) (suc t) o (omega arith))))
+        (decided-step _ budget s _ (omega arith) (rest j (c .bit) (suc s) o (omega arith)))
+        (λ t ht. decided-step limit budget t _ (omega arith) (decided-weaker (suc t + cost (openIn k (set b j (Some (not (c .bit)))))) limit (omega arith) _ (rest j (not (c .bit)) (suc t) o (omega arith))))
     go (no nlt) =
         let z = led-whole cs v k b led kv lb cl (lead b c p (omega arith)) in
         let q = open-some b v (c .var) o (omega (arith, open-inside b (c .var) o)) in
@@ -181,8 +188,8 @@ module _ (rule : Rule) (cs : List (List ℤ)) (budget v k : ℕ) (law : Picks ru
       let lb = closure-length cs a in
       let m = cost-mono (openIn k b) (openIn k a) (open-le k a b (sym lb) (closure-grows cs a)) in
       decided-broken (s + cost (openIn k a)) s _ (violated b cs) (omega arith)
-        (λ e. decided-chosen (descend rule cs budget n) b s (s + cost (openIn k a)) (lb ∙ l) (closed-closure cs a e) (omega arith) h
-          (λ j x t o g. backtrack-decided n (set b j (Some x)) t (length-set b j (Some x) ∙ lb ∙ l) g) (rule b) refl)
+      (λ e. decided-chosen (descend rule cs budget n) b s (s + cost (openIn k a)) (lb ∙ l) (closed-closure cs a e) (omega arith) h
+      (λ j x t o g. backtrack-decided n (set b j (Some x)) t (length-set b j (Some x) ∙ lb ∙ l) g) (rule b) refl)
 
 open-all : (k v : ℕ) → k ≤ v → openIn k (replicate v None) ≡ k
 open-all zero v h = refl

@@ -47,7 +47,8 @@ backtracking-solves cs v k budget kv =
     record {
       promised = sound-promised cs v (backtracking lowest cs budget (replicate v None)) (h .0);
       counted = counted-steps budget (backtracking lowest cs budget (replicate v None)) (h .1);
-      settled = λ led b. settled lowest cs budget v k (lowest-law .0) (lowest-law .1 k) led kv b }
+      settled = λ led b. settled lowest cs budget v k (lowest-law .0) (lowest-law .1 k) led kv b;
+    }
 
 full-set : (k : ℕ) (r : List Bool) → openIn k (full r) ≡ 0
 full-set zero r = refl
@@ -76,7 +77,8 @@ counting-solves cs v k budget k1 kv =
     record {
       promised = tally-promised cs v k kv (tryEach cs v budget (settings k) 0) (tallied cs v budget k kv (settings k) 0 (settings-long k));
       counted = each-steps cs v budget (settings k) 0 (omega arith);
-      settled = λ led b. decided-weaker (0 + length (settings k)) (2 ^ (k + 1) - 2) (omega arith) _ (each-decided cs v k budget led (settings k) 0 (settings-long k) (omega arith)) }
+      settled = λ led b. decided-weaker (0 + length (settings k)) (2 ^ (k + 1) - 2) (omega arith) _ (each-decided cs v k budget led (settings k) 0 (settings-long k) (omega arith));
+    }
 
 pub backtracking-answers : BacktrackingAnswers
 backtracking-answers m budget kv = answers m budget (backtracked m budget) (backtracking-solves (m .clauses) (m .variables) (m .leading) budget kv)

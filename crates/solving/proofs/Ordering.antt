@@ -50,11 +50,12 @@ pub any-order : AnyOrder
 any-order cs a b r = record {
   broken = λ e. go e (violated (closure cs a) cs) refl;
   whole = λ s e.
-    let k : Closed cs b = record { whole = e; still = s } in
-    let w = closure-within cs a b (reach-grows cs r) k in
-    let f = not-violated (closure cs a) b cs w e in
-    let v = reach-within cs (closure cs a) (closed-closure cs a f) r (closure-grows cs a) in
-    same-setting b (closure cs a) (reach-length cs r ∙ sym (closure-length cs a)) v w }
+      let k : Closed cs b = record { whole = e; still = s } in
+      let w = closure-within cs a b (reach-grows cs r) k in
+      let f = not-violated (closure cs a) b cs w e in
+      let v = reach-within cs (closure cs a) (closed-closure cs a f) r (closure-grows cs a) in
+      same-setting b (closure cs a) (reach-length cs r ∙ sym (closure-length cs a)) v w;
+}
   where
     go : violated b cs ≡ true → (x : Bool) → violated (closure cs a) cs ≡ x → x ≡ true
     go e true f = refl

@@ -67,8 +67,8 @@ module _ (cs : List (List ℤ)) where
     sound-chosen deeper b s e rest (Some c) p =
         let o = law .opens b c p in
         sound-orElse b (c .var) (c .bit) o (step budget s (deeper (set b (c .var) (Some (c .bit))))) _
-          (sound-while (set b (c .var) (Some (c .bit))) (ltb s budget) s _ (λ t. rest (c .var) (c .bit) t o))
-          (λ t. sound-while (set b (c .var) (Some (not (c .bit)))) (ltb t budget) t _ (λ u. rest (c .var) (not (c .bit)) u o))
+        (sound-while (set b (c .var) (Some (c .bit))) (ltb s budget) s _ (λ t. rest (c .var) (c .bit) t o))
+        (λ t. sound-while (set b (c .var) (Some (not (c .bit)))) (ltb t budget) t _ (λ u. rest (c .var) (not (c .bit)) u o))
 
     -- the count of open variables, after closure and a choice
     pub fewer : (a : Setting) (n j : ℕ) (x : Bool) → openIn (length a) a ≤ suc n → at (closure cs a) j ≡ None → openIn (length (set (closure cs a) j (Some x))) (set (closure cs a) j (Some x)) ≤ n
@@ -92,6 +92,7 @@ counted-while budget s k h f = go (ltb s budget) refl where
   weaker s t h (found b u) c = omega arith
   weaker s t h (none u) c = omega arith
   weaker s t h (undecided u) c = omega arith
+
   go : (x : Bool) → ltb s budget ≡ x → Counted budget s (while x s k)
   go true e = weaker s (suc s) (omega arith) (k (suc s)) (f (suc s) (ltb-true s budget e))
   go false e = let g = ltb-false s budget e in omega arith

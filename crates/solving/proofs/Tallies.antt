@@ -81,11 +81,14 @@ module _ (cs : List (List ℤ)) (v : ℕ) where
   tried-says bs s h = go (violated b cs) refl where
     b : Setting
     b = closure cs (leads v bs)
+
     l : length b ≡ v
     l = closure-length cs (leads v bs) ∙ leads-length v bs h
+
     set : (x : Bool) → eqb (openIn v b) 0 ≡ x → violated b cs ≡ false → Tried bs (ifSet x b s)
     set true e w = let z = eqb-true (openIn v b) 0 e in record { long = l; set = z; holds = settles cs b w (rw l z) }
     set false e w = tt
+
     go : (x : Bool) → violated b cs ≡ x → Tried bs (ifWhole x v b s)
     go true e = e
     go false e = set (eqb (openIn v b) 0) refl e
@@ -122,6 +125,7 @@ module _ (cs : List (List ℤ)) (v : ℕ) where
     set : (x : Bool) (b : Setting) → stepsOf (ifSet x b s) ≡ s
     set true b = refl
     set false b = refl
+
     go : (x : Bool) → stepsOf (ifWhole x v (closure cs (leads v bs)) s) ≡ s
     go true = refl
     go false = set (eqb (openIn v (closure cs (leads v bs))) 0) (closure cs (leads v bs))
@@ -147,9 +151,11 @@ module _ (cs : List (List ℤ)) (v : ℕ) where
   led-tried k bs s led e = go (violated b cs) refl (led bs e) where
     b : Setting
     b = closure cs (leads v bs)
+
     set : (x : Bool) → eqb (openIn v b) 0 ≡ x → openIn v b ≡ 0 → Decided s (ifSet x b s)
     set true f z = omega arith
     set false f z = absurd (eqb-false (openIn v b) 0 f z)
+
     go : (x : Bool) → violated b cs ≡ x → (violated b cs ≡ true) ⊎ (openIn v b ≡ 0) → Decided s (ifWhole x v b s)
     go true f d = omega arith
     go false f (inl h) = absurd (true≢false (sym h ∙ f))
@@ -160,5 +166,5 @@ module _ (cs : List (List ℤ)) (v : ℕ) where
   each-decided k budget led [] s l h = omega arith
   each-decided k budget led (bs ∷ bss) s l h =
       decided-orElse (suc s) (s + length (bs ∷ bss)) (omega arith) (step budget s (tried cs v bs)) (tryEach cs v budget bss)
-        (decided-step (suc s) budget s (tried cs v bs) (omega arith) (led-tried k bs (suc s) led (l .0)))
-        (λ t ht. decided-weaker (t + length bss) (s + length (bs ∷ bss)) (omega arith) _ (each-decided k budget led bss t (l .1) (omega arith)))
+      (decided-step (suc s) budget s (tried cs v bs) (omega arith) (led-tried k bs (suc s) led (l .0)))
+      (λ t ht. decided-weaker (t + length bss) (s + length (bs ∷ bss)) (omega arith) _ (each-decided k budget led bss t (l .1) (omega arith)))

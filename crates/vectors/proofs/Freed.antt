@@ -7,12 +7,11 @@ use native.Mathlib.Omega.{arith}
 use lib.Bits.{bitAnd}
 use lib.Dec.{eqb}
 use lib.Pow.{pow-add}
-use Rattle.signal.specs.declared.ternary.Ternary.{Ternary}
 use Rattle.signal.specs.declared.ternary.Ternary.the-variants.{X}
 use Rattle.std.proofs.shelf.Bits.{div-add-mod', div-mul-add, mod-below, mod-mul-add}
 use Rattle.std.proofs.shelf.Tests.{and-left, and-right, both-ways, cases-bool, cases-eq, cases-lt, cond-false, cond-true, eq-eqb, eqb-true, ne-eqb, true≢false}
 use Rattle.vectors.specs.Freeing.{FreesOnly, freed, without}
-use Rattle.vectors.specs.Vectors.{Cells, bitAt, cellAt, cellOf, holding}
+use Rattle.vectors.specs.Vectors.{Cells, bitAt, cellOf}
 use Rattle.vectors.proofs.Bits.{bit-lowest, bit-past, bit-suc}
 use Rattle.vectors.proofs.Forms.{free-from-bits, zero-where-free}
 

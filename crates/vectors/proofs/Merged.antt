@@ -1,18 +1,18 @@
 -- The bits of two vectors merged, and the settings that fill the merged vector.
 use mathlib.Core.Path.{_≡_, refl, sym, ap, ap₂, _∙_}
 use mathlib.Core.Bool.{Bool, true, false, not, _&&_, _||_}
-use mathlib.Core.Logic.{_⊎_, inl, inr, ⊎-elim, _↔_}
-use mathlib.Core.List.{List}
-use Prim.Native.Nat.{ℕ, zero, suc, _+_, _*_, _/_, _%_, _^_, _<_}
+use mathlib.Core.Logic.{_⊎_, ⊎-elim}
+use Prim.Native.Nat.{ℕ, zero, suc, _/_, _%_, _^_, _<_}
 use native.Mathlib.Omega.{arith}
 use lib.Arith.{bin-ind}
 use lib.Bits.{bitAnd, bitOr, bitXor, xor-mod, xor-shr}
 use lib.Dec.{eqb}
 use Rattle.signal.specs.Operations.{differ}
 use Rattle.std.proofs.shelf.Bits.{div-add-mod', mod-below}
-use Rattle.std.proofs.shelf.Tests.{and-from, and-parts, both-ways, cases-bool, cases-eq, eq-eqb, false≢true, or-cases, or-from, or-left, or-parts, or-right, true≢false}
-use Rattle.vectors.specs.Merging.{FilledByBoth, Opposed, mergeable, union}
-use Rattle.vectors.specs.Vectors.{Cells, Fills, bitAt, holding}
+use Rattle.std.proofs.shelf.Tests.{and-from, and-parts, both-ways, cases-eq, eq-eqb, false≢true, or-cases, or-from, or-left, or-parts, or-right, true≢false}
+use Rattle.vectors.specs.Extending.{Extends}
+use Rattle.vectors.specs.Merging.{FilledByBoth, Opposed, union}
+use Rattle.vectors.specs.Vectors.{Cells, bitAt}
 use Rattle.vectors.proofs.Bits.{bit-and, bit-lowest, bit-of-zero, bit-or, bit-suc}
 use Rattle.vectors.proofs.Forms.{free-from-bits, zero-where-free}
 
@@ -35,10 +35,10 @@ bit-xor a b j = ap (λ (x : ℕ). eqb (x % 2) 1) (xor-shr a b j) ∙ xor-digit (
 pub some-bit : (n : ℕ) → (n ≡ 0 → ⊥) → (j : ℕ) × (bitAt n j ≡ true)
 some-bit = bin-ind (λ n. (n ≡ 0 → ⊥) → (j : ℕ) × (bitAt n j ≡ true)) (λ h. absurd (h refl)) (λ n ih h.
     ⊎-elim {C = (j : ℕ) × (bitAt n j ≡ true)}
-      (λ e. (0, bit-lowest n ∙ eq-eqb (n % 2) 1 e))
-      (λ e. let l = mod-below n 2 (omega arith) in let s = div-add-mod' n 2 in
-            let r = ih (λ z. h (omega arith)) in (suc (r .0), bit-suc n (r .0) ∙ r .1))
-      (cases-eq (n % 2) 1))
+    (λ e. (0, bit-lowest n ∙ eq-eqb (n % 2) 1 e))
+    (λ e. let l = mod-below n 2 (omega arith) in let s = div-add-mod' n 2 in
+    let r = ih (λ z. h (omega arith)) in (suc (r .0), bit-suc n (r .0) ∙ r .1))
+    (cases-eq (n % 2) 1))
 
 -- ---- two bits and their difference
 
@@ -106,6 +106,9 @@ module _ (v w : Cells) where
     care-from-other : (j : ℕ) → bitAt (w .care) j ≡ true → bitAt (union v w .care) j ≡ true
     care-from-other j t = bit-or (v .care) (w .care) j ∙ or-right (bitAt (v .care) j) (bitAt (w .care) j) t
 
+    pub union-extends : Extends (union v w) v × Extends (union v w) w
+    union-extends = (record { fixes = care-from-one; same-bit = value-of-one }, record { fixes = care-from-other; same-bit = value-of-other })
+
     pub union-filled : FilledByBoth v w (union v w)
     union-filled k bits = (
       λ f. (
@@ -115,9 +118,9 @@ module _ (v w : Cells) where
       λ f. record {
         one-for-each = f .0 .one-for-each;
         agrees = λ j h t. ⊎-elim
-          (λ a. f .0 .agrees j h a ∙ sym (value-of-one j a))
-          (λ a. f .1 .agrees j h a ∙ sym (value-of-other j a))
-          (or-cases (bitAt (v .care) j) (bitAt (w .care) j) (sym (bit-or (v .care) (w .care) j) ∙ t));
+            (λ a. f .0 .agrees j h a ∙ sym (value-of-one j a))
+            (λ a. f .1 .agrees j h a ∙ sym (value-of-other j a))
+            (or-cases (bitAt (v .care) j) (bitAt (w .care) j) (sym (bit-or (v .care) (w .care) j) ∙ t));
       },
     )
 

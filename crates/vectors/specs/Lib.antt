@@ -6,3 +6,4 @@ pub mod Rows
 pub mod Faults
 pub mod Freeing
 pub mod Merging
+pub mod Extending

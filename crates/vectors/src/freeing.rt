@@ -9,7 +9,11 @@ use crate::vector::Vector;
 fn without(number: u32, place: usize) -> u32
     ensures lacks_the_bit { λ r. ⌜ r ≡ withoutBit number place ⌝ }
 {
-    if bit(number, place) { number - (1 << place) } else { number }
+    if bit(number, place) {
+        number - (1 << place)
+    } else {
+        number
+    }
 }
 
 impl Vector {

@@ -1,13 +1,13 @@
 -- The two walks give the three values of the good and of the faulty card, whose outputs are nets.
 use mathlib.Core.Path.{_≡_, sym, _∙_, ap}
-use mathlib.Core.Bool.{true}
 use Rattle.std.proofs.shelf.Ways.{decides-at}
 use Rattle.card.specs.Netlists.{allBelow, nets}
 use Rattle.card.specs.Views.{netlistOf}
-use Rattle.signal.proofs.Below.{below-weaken}
+use Rattle.card.proofs.Below.{below-weaken}
 use Rattle.vectors.specs.Views.{cellsOf}
 use Rattle.faults.specs.Catching.{catches}
 use Rattle.faults.proofs.Caught.{catch-shown, catches-read, fixed-catches}
+use Rattle.faults.proofs.Refined.{catches-more}
 use Rattle.faults.proofs.catching.catches.Needs as need
 
 pub opposite-somewhere-requires : need.opposite-somewhere-requires
@@ -25,10 +25,11 @@ returns c =
     let rules = c .outputs .ensures .every-card-keeps-the-rules in
     let e : r ≡ catches card s v =
     catches-read card s v (c .walk .last .nets) (c .walk-2 .last .nets) _ _ (c .outputs .result .now) r rules (c .outputs .ensures .are-the-outputs)
-      (c .enter .ensures .enters-the-cells) (c .enter-2 .ensures .enters-the-cells) (c .walk .ensures .every-net-has-its-value) (c .walk-2 .ensures .every-net-has-its-value)
-      (c .opposite-somewhere .ensures .says-whether-some-are-opposite) in
+    (c .enter .ensures .enters-the-cells) (c .enter-2 .ensures .enters-the-cells) (c .walk .ensures .every-net-has-its-value) (c .walk-2 .ensures .every-net-has-its-value)
+    (c .opposite-somewhere .ensures .says-whether-some-are-opposite) in
     record {
       says-whether-good-and-faulty-are-opposite-at-an-output = e;
       a-catch-is-shown-by-every-filling-at-one-output = λ t. catch-shown card s v (sym e ∙ t);
+      what-extends-the-vector-catches-too = λ t w x. catches-more card s w v x (sym e ∙ t);
       without-free-cells-a-catch-is-a-showing = λ a bits f. decides-at r (catches card s v) e (fixed-catches card s v bits rules a f);
     }

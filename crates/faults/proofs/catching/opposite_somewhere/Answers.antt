@@ -1,10 +1,7 @@
 -- One net more; at the first with opposite values the answer is known.
-use mathlib.Core.Path.{_≡_, refl, sym, _∙_, ap}
 use mathlib.Core.Bool.{true, false}
-use native.Mathlib.Omega.{arith}
-use borrow.Author.Needs.{needs}
 use lib.ListN.{getD}
-use Rattle.signal.proofs.Below.{below-at}
+use Rattle.card.proofs.Below.{below-at}
 use Rattle.faults.proofs.Caught.{opposite-read, somewhere-all, somewhere-here, somewhere-later}
 use Rattle.faults.proofs.catching.opposite_somewhere.Needs as need
 

@@ -1,9 +1,8 @@
 -- One reader more is counted at its net; the count never passes the number of readers.
-use mathlib.Core.Path.{_≡_, sym, _∙_, ap, refl}
-use Prim.Native.Nat.{ℕ, _<_}
+use mathlib.Core.Path.{_∙_, ap, refl}
+use Prim.Native.Nat.{_<_}
 use native.Mathlib.Omega.{arith}
-use borrow.Author.Needs.{needs}
-use lib.ListN.{getD, length, length-set, take}
+use lib.ListN.{getD, length-set}
 use Rattle.std.proofs.shelf.Lists.{getD-replicate, take-all}
 use Rattle.signal.specs.declared.line.Line.the-variants.{Net}
 use Rattle.faults.specs.declared.reader.Reader.{Reader}
@@ -27,9 +26,10 @@ add-counts c =
 pub loop-reader-again : need.loop-reader-again
 loop-reader-again c =
     let i = c .loop-reader .reader-index in
-    let list = c .args .list .now in
-    (length-set (c .loop-reader .counts) _ _ ∙ c .loop-reader .inv .0,
-     counted-more (c .loop-reader .counts) list i _ _ _ (c .loop-reader-test .taken) (c .loop-reader .inv .0) (c .pre .read-nets-of-a-card i _ (c .loop-reader-test .taken)) refl refl (c .loop-reader .inv .1))
+    let list = c .args .list .now in (
+      length-set (c .loop-reader .counts) _ _ ∙ c .loop-reader .inv .0,
+      counted-more (c .loop-reader .counts) list i _ _ _ (c .loop-reader-test .taken) (c .loop-reader .inv .0) (c .pre .read-nets-of-a-card i _ (c .loop-reader-test .taken)) refl refl (c .loop-reader .inv .1),
+    )
 
 pub returns : need.returns
 returns c =

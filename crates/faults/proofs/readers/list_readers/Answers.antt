@@ -1,7 +1,5 @@
 -- One gate more is listed; at the end all readers are.
 use mathlib.Core.Path.{_≡_, refl, _∙_, ap}
-use native.Mathlib.Omega.{arith}
-use borrow.Author.Needs.{needs}
 use Rattle.std.specs.Of.Vec.{vec-items}
 use Rattle.card.specs.Views.{netlistOf}
 use Rattle.faults.specs.Readers.{gateReaders, readers}

@@ -30,7 +30,8 @@ backtrack-solved-requires c κs =
       fresh = c .new-trail .ensures .has-no-entry;
       blank = c .new-decisions .ensures .has-no-entry;
       space = omega (arith, h, l, c .new-trail .ensures .has-the-room-lent, c .pre .room-for-literals);
-      more = omega (arith, h, l, c .new-decisions .ensures .has-the-room-lent, c .pre .room-for-decisions) }
+      more = omega (arith, h, l, c .new-decisions .ensures .has-the-room-lent, c .pre .room-for-decisions);
+    }
 
 pub returns : need.returns
 returns c =
@@ -42,4 +43,5 @@ returns c =
     record {
       answers-as-defined = told-answered (c .backtrack-solved .result) (c .backtrack-solved .last .values) (backtracked (modelOf s) (c .args .budget)) q;
       leaves-as-defined = ap (λ (b : Setting). reads (modelOf (c .reopen .last .self)) (cond (c .is-found-store .result) (Some (readingOf b)) None)) (refilled-is (c .reopen .last .self .values) (c .backtrack-solved .last .values) (c .backtrack-solved .kept .values ∙ c .deref-mut .ensures .len))
-        ∙ concluded (modelOf s) (modelOf (c .reopen .last .self)) (c .backtrack-solved .result) (c .backtrack-solved .last .values) (backtracked (modelOf s) (c .args .budget)) (c .is-found-store .result) e q (c .is-found-store .ensures .tells-found) }
+          ∙ concluded (modelOf s) (modelOf (c .reopen .last .self)) (c .backtrack-solved .result) (c .backtrack-solved .last .values) (backtracked (modelOf s) (c .args .budget)) (c .is-found-store .result) e q (c .is-found-store .ensures .tells-found);
+    }

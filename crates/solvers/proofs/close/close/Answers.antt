@@ -25,7 +25,8 @@ returns-in-Broken c =
       whole = ap (λ a. violated a cs) (sym (c .loop-literal .inv .0)) ∙ close-broken (c .loop-literal .values) _ cs (sym (c .in-Broken .ensures tt .is-the-first-such-clause));
       closed = λ e. absurd (false≢true e);
       grown = c .loop-literal .inv .1;
-      space = c .loop-literal .inv .2 }
+      space = c .loop-literal .inv .2;
+    }
 
 pub returns-in-Nothing : need.returns-in-Nothing
 returns-in-Nothing c =
@@ -35,7 +36,8 @@ returns-in-Nothing c =
       whole = ap (λ a. violated a cs) (sym (c .loop-literal .inv .0) ∙ h .0) ∙ h .1;
       closed = λ e. sym (h .0) ∙ c .loop-literal .inv .0;
       grown = c .loop-literal .inv .1;
-      space = c .loop-literal .inv .2 }
+      space = c .loop-literal .inv .2;
+    }
 
 pub make-requires : need.make-requires
 make-requires c κs =
@@ -59,15 +61,16 @@ loop-literal-less c =
     omega (arith, g, ap (λ a. openIn (length a) a) m)
 
 pub loop-literal-again : need.loop-literal-again
-loop-literal-again c = 
+loop-literal-again c =
     let v = c .loop-literal .values in
     let cs = clausesFrom (c .args .literals .now) 0 (c .args .ends .now) in
     let f : SFits w16 (c .in-Unit .literal) = search needs in
     let e = c .in-Unit .ensures tt .is-the-first-such-clause in
     let m = simp toZ-ofZ at (c .make .ensures .values) in
     let t = simp toZ-ofZ at (c .make .ensures .trail) in
-    let g = made-falls v _ cs (c .in-Unit .literal) (sym e) in
-    (ap (closure cs) m ∙ close-lone v _ cs (c .in-Unit .literal) (sym e) ∙ c .loop-literal .inv .0,
-     rw (m, t) (grown-more _ v _ _ (c .in-Unit .literal) (c .loop-literal .inv .1) (close-open v _ cs (c .in-Unit .literal) (sym e))),
-     c .make .ensures .space ∙ c .loop-literal .inv .2,
-     omega (arith, g, ap (λ a. openIn (length a) a) m, c .make .ensures .len, c .make .ensures .space, c .loop-literal .inv .3))
+    let g = made-falls v _ cs (c .in-Unit .literal) (sym e) in (
+      ap (closure cs) m ∙ close-lone v _ cs (c .in-Unit .literal) (sym e) ∙ c .loop-literal .inv .0,
+      rw (m, t) (grown-more _ v _ _ (c .in-Unit .literal) (c .loop-literal .inv .1) (close-open v _ cs (c .in-Unit .literal) (sym e))),
+      c .make .ensures .space ∙ c .loop-literal .inv .2,
+      omega (arith, g, ap (λ a. openIn (length a) a) m, c .make .ensures .len, c .make .ensures .space, c .loop-literal .inv .3),
+    )

@@ -26,7 +26,7 @@ returns-in-Found c =
     let s = c .loop-steps .steps in
     let h : s < 2 ^ c .args .leading = omega (arith, c .power-all .ensures .is-the-number-of-settings, c .if-steps-all .left) in
     let e = tried-as cs (length (c .loop-steps .values)) (length (c .args .values .now)) (bitsOf (c .args .leading) s) (s + 1) _ (c .loop-steps .kept .values) (c .in-Found .ensures tt .is-what-it-comes-to (s + 1)) in
-    record { answers-as-defined = sym (c .loop-steps .inv .1) ∙ each-next cs (length (c .args .values .now)) (c .args .leading) (c .args .budget) s Found (c .try-setting .last .values) h (c .if-steps-budget .left) e }
+    record { answers-as-defined = sym (c .loop-steps .inv .1) ∙ each-next cs (length (c .args .values .now)) (c .args .leading) (c .args .budget) s Found (c .try-setting-verdict .last .values) h (c .if-steps-budget .left) e }
 
 pub returns-in-Undecided : need.returns-in-Undecided
 returns-in-Undecided c =
@@ -34,13 +34,14 @@ returns-in-Undecided c =
     let s = c .loop-steps .steps in
     let h : s < 2 ^ c .args .leading = omega (arith, c .power-all .ensures .is-the-number-of-settings, c .if-steps-all .left) in
     let e = tried-as cs (length (c .loop-steps .values)) (length (c .args .values .now)) (bitsOf (c .args .leading) s) (s + 1) _ (c .loop-steps .kept .values) (c .in-Undecided .ensures tt .is-what-it-comes-to (s + 1)) in
-    record { answers-as-defined = sym (c .loop-steps .inv .1) ∙ each-next cs (length (c .args .values .now)) (c .args .leading) (c .args .budget) s Undecided (c .try-setting .last .values) h (c .if-steps-budget .left) e }
+    record { answers-as-defined = sym (c .loop-steps .inv .1) ∙ each-next cs (length (c .args .values .now)) (c .args .leading) (c .args .budget) s Undecided (c .try-setting-verdict .last .values) h (c .if-steps-budget .left) e }
 
 pub loop-steps-again : need.loop-steps-again
 loop-steps-again c =
     let cs = clausesFrom (c .args .literals .now) 0 (c .args .ends .now) in
     let s = c .loop-steps .steps in
     let h : s < 2 ^ c .args .leading = omega (arith, c .power-all .ensures .is-the-number-of-settings, c .if-steps-all .left) in
-    let e = tried-as cs (length (c .loop-steps .values)) (length (c .args .values .now)) (bitsOf (c .args .leading) s) (s + 1) _ (c .loop-steps .kept .values) (c .in-None .ensures tt .is-what-it-comes-to (s + 1)) in
-    (omega (arith, c .if-steps-all .left),
-     sym (each-next cs (length (c .args .values .now)) (c .args .leading) (c .args .budget) s None (c .try-setting .last .values) h (c .if-steps-budget .left) e) ∙ c .loop-steps .inv .1)
+    let e = tried-as cs (length (c .loop-steps .values)) (length (c .args .values .now)) (bitsOf (c .args .leading) s) (s + 1) _ (c .loop-steps .kept .values) (c .in-None .ensures tt .is-what-it-comes-to (s + 1)) in (
+      omega (arith, c .if-steps-all .left),
+      sym (each-next cs (length (c .args .values .now)) (c .args .leading) (c .args .budget) s None (c .try-setting-verdict .last .values) h (c .if-steps-budget .left) e) ∙ c .loop-steps .inv .1,
+    )

@@ -13,7 +13,8 @@ close-requires c κs =
     let o = open-most (length a) a in
     record {
       ends = c .pre .ends;
-      space = omega (arith, o, c .enter .kept .values, c .new-trail .ensures .has-no-entry, c .new-trail .ensures .has-the-room-lent, c .pre .space) }
+      space = omega (arith, o, c .enter .kept .values, c .new-trail .ensures .has-no-entry, c .new-trail .ensures .has-the-room-lent, c .pre .space);
+    }
 
 pub returns-in-None : need.returns-in-None
 returns-in-None c =

@@ -29,7 +29,8 @@ count-solved-requires c κs =
       ends = ends-as (c .deref .result .now) (vec-items (n .literals)) (c .deref-2 .result .now) (vec-items (n .ends)) (c .deref .ensures .value) (c .deref-2 .ensures .value) (ends-of (vec-items (n .literals)) (vec-len (n .literals)) 0 (vec-items (n .ends)) (n .literals .ok .0) (n .ended));
       inside = omega (arith, l, e, start-leads (n .variables) (n .leading) (n .sized));
       few = start-few (n .variables) (n .leading) (n .sized);
-      space = omega (arith, h, l, c .pre) }
+      space = omega (arith, h, l, c .pre);
+    }
 
 pub returns : need.returns
 returns c =
@@ -42,4 +43,5 @@ returns c =
     record {
       answers-as-defined = told-answered (c .count-solved .result) (c .count-solved .last .values) (counted (modelOf s) (c .args .budget)) q;
       leaves-as-defined = ap (λ (b : Setting). reads (modelOf (c .reopen .last .self)) (cond (c .is-found-store .result) (Some (readingOf b)) None)) (refilled-is (c .reopen .last .self .values) (c .count-solved .last .values) (c .count-solved .kept .values ∙ c .deref-mut .ensures .len))
-        ∙ concluded (modelOf s) (modelOf (c .reopen .last .self)) (c .count-solved .result) (c .count-solved .last .values) (counted (modelOf s) (c .args .budget)) (c .is-found-store .result) e q (c .is-found-store .ensures .tells-found) }
+          ∙ concluded (modelOf s) (modelOf (c .reopen .last .self)) (c .count-solved .result) (c .count-solved .last .values) (counted (modelOf s) (c .args .budget)) (c .is-found-store .result) e q (c .is-found-store .ensures .tells-found);
+    }

@@ -21,10 +21,12 @@ loop-j-again c =
     let e : c .args .leading - j ≡ suc k = omega (arith, c .loop-j-test .taken) in
     let w : weight ≡ 2 ^ k = half-power (c .loop-j .weight) (c .args .leading - j) k (c .loop-j .inv .0) e in
     let r : c .if-bit .rest ≡ cond (leb weight rest) (rest - weight) rest = elim (c .if-bit .came) [
-        then-bit p ↦ p .rest-is ∙ sym (ap (λ z. cond z (rest - weight) rest) (le-leb weight rest (p .if-bit .taken)))
-      | else-bit p ↦ p .rest-is ∙ sym (ap (λ z. cond z (rest - weight) rest) (lt-leb weight rest (p .if-bit .left))) ] in
-    (w,
-     ap (λ n. written (set (c .loop-j .values) j (Some (leb weight rest))) (j + 1) (bitsOf k n)) r
-     ∙ sym (written-more (c .loop-j .values) j k rest weight w)
-     ∙ ap (λ n. written (c .loop-j .values) j (bitsOf n rest)) (sym e)
-     ∙ c .loop-j .inv .1)
+      | then-bit p ↦ p .rest-is ∙ sym (ap (λ z. cond z (rest - weight) rest) (le-leb weight rest (p .if-bit .taken)))
+      | else-bit p ↦ p .rest-is ∙ sym (ap (λ z. cond z (rest - weight) rest) (lt-leb weight rest (p .if-bit .left)))
+    ] in (
+      w,
+      ap (λ n. written (set (c .loop-j .values) j (Some (leb weight rest))) (j + 1) (bitsOf k n)) r
+          ∙ sym (written-more (c .loop-j .values) j k rest weight w)
+          ∙ ap (λ n. written (c .loop-j .values) j (bitsOf n rest)) (sym e)
+          ∙ c .loop-j .inv .1,
+    )

@@ -17,11 +17,12 @@ loop-values-again c =
     let ok = c .undo .last .trail .fits in
     let n = c .undo .ensures .len in
     let g : c .args .to ≤ c .undo .last .trail .len = omega (arith, n, c .loop-values-test .taken, c .len .ensures .counts-the-entries) in
-    let ls : c .args .to ≤ length s = simp length-take (omega (arith, g, ok)) in
-    (g,
-     ap (λ a. unmadeAll a (drop (c .args .to) s)) (u .2) ∙ unwind-values (c .loop-values .values) t s (u .0) (c .args .to) (u .1) ls ∙ c .loop-values .inv .1,
-     unwind-trail t s (u .0) (c .args .to) (u .1) ls ∙ c .loop-values .inv .2,
-     c .undo .ensures .space ∙ c .loop-values .inv .3)
+    let ls : c .args .to ≤ length s = simp length-take (omega (arith, g, ok)) in (
+      g,
+      ap (λ a. unmadeAll a (drop (c .args .to) s)) (u .2) ∙ unwind-values (c .loop-values .values) t s (u .0) (c .args .to) (u .1) ls ∙ c .loop-values .inv .1,
+      unwind-trail t s (u .0) (c .args .to) (u .1) ls ∙ c .loop-values .inv .2,
+      c .undo .ensures .space ∙ c .loop-values .inv .3,
+    )
 
 pub returns : need.returns
 returns c =
@@ -32,4 +33,5 @@ returns c =
       values = sym (ap (unmadeAll (c .loop-values .values)) d) ∙ c .loop-values .inv .1;
       trail = sym (take-append-drop (c .args .to) t) ∙ ap (λ (x : List ℤ). take (c .args .to) t ++ x) d ∙ append-nil (take (c .args .to) t) ∙ c .loop-values .inv .2;
       len = omega (arith, c .loop-values-test .left, c .len .ensures .counts-the-entries, c .loop-values .inv .0);
-      space = c .loop-values .inv .3 }
+      space = c .loop-values .inv .3;
+    }

@@ -1,8 +1,7 @@
 -- A bit that is set has a place below 32, and the number is at least its weight.
-use mathlib.Core.Path.{_≡_, sym, subst, _∙_, ap}
+use mathlib.Core.Path.{sym, subst, _∙_, ap}
 use Prim.Native.Nat.{ℕ, _-_, _<_, _≤_, _^_}
 use native.Mathlib.Omega.{arith}
-use borrow.Author.Needs.{needs}
 use Rattle.std.proofs.shelf.Bits.{one-shl}
 use Rattle.std.proofs.shelf.Tests.{cond-true}
 use Rattle.vectors.specs.Vectors.{bitAt}

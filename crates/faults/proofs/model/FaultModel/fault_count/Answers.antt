@@ -1,11 +1,8 @@
 -- A lawful card has at most 256 nets and 510 gate pins.
-use mathlib.Core.Path.{_≡_, sym, _∙_, ap}
-use Prim.Native.Nat.{_≤_}
+use mathlib.Core.Path.{ap}
 use native.Mathlib.Omega.{arith}
-use borrow.Author.Needs.{needs}
 use lib.ListN.{length}
 use Rattle.card.specs.Views.{netlistOf}
-use Rattle.faults.specs.Readers.{branches}
 use Rattle.faults.proofs.Sited.{few-sites, site-laws}
 use Rattle.faults.proofs.model.FaultModel.fault_count.Needs as need
 

@@ -1,6 +1,5 @@
 -- Every reader reads a net of the card, and the counts are those of the list.
-use mathlib.Core.Path.{_≡_, sym, _∙_, ap}
-use borrow.Author.Needs.{needs}
+use mathlib.Core.Path.{sym, _∙_, ap}
 use Rattle.faults.specs.Readers.{readIn}
 use Rattle.faults.proofs.Listed.{at-same}
 use Rattle.faults.proofs.model.FaultModel.open.Needs as need

@@ -31,7 +31,8 @@ returns-then-clause-len c =
     record {
       answer = if-false (roomFor m x) (Ok tt) (Err Places) r ∙ if-true (allInRange (s .variables) x) _ (Err Literal) a;
       granted = sym n;
-      state = if-false (appendable m x) (longer m x) m n }
+      state = if-false (appendable m x) (longer m x) m n;
+    }
 
 pub ghost-self : need.ghost-self
 ghost-self c =
@@ -39,14 +40,25 @@ ghost-self c =
     let x = c .args .clause .now in
     let k : isOk (c .extend-from-slice .result) ≡ true = c .extend-from-slice .ensures .succeeds (omega (arith, c .len .ensures, c .len-2 .ensures, c .if-clause-len .left, s .few, s .«room_for_literals»)) in
     let l : vec-len (c .extend-from-slice .last .self) ≡ vec-len (s .literals) + length x = c .extend-from-slice .ensures .len ∙ sym (if-true (isOk (c .extend-from-slice .result)) _ _ k) in
-    let p = c .push-reserved .ensures in
-    (s .sized,
-     (ap (endsWell (vec-len (c .extend-from-slice .last .self)) 0) (p .items ∙ ap (λ n. vec-items (s .ends) ++ (n ∷ [])) (c .len-end .ensures)) ∙ ends-more (vec-len (s .literals)) (vec-len (c .extend-from-slice .last .self)) 0 (vec-items (s .ends)) (omega (arith, l)) (s .ended),
-     (omega (arith, l, p .len, c .len .ensures, c .len-2 .ensures, c .if-clause-len .left),
-     (omega (arith, c .extend-from-slice .ensures .capacity, s .«room_for_literals»),
-     (omega (arith, p .capacity, s .«room_for_ends»),
-     (s .«room_for_values»,
-     (λ e. absurd (false≢true e), tt)))))))
+    let p = c .push-reserved .ensures in (
+      s .sized,
+      (
+        ap (endsWell (vec-len (c .extend-from-slice .last .self)) 0) (p .items ∙ ap (λ n. vec-items (s .ends) ++ (n ∷ [])) (c .len-end .ensures)) ∙ ends-more (vec-len (s .literals)) (vec-len (c .extend-from-slice .last .self)) 0 (vec-items (s .ends)) (omega (arith, l)) (s .ended),
+        (
+          omega (arith, l, p .len, c .len .ensures, c .len-2 .ensures, c .if-clause-len .left),
+          (
+            omega (arith, c .extend-from-slice .ensures .capacity, s .«room_for_literals»),
+            (
+              omega (arith, p .capacity, s .«room_for_ends»),
+              (
+                s .«room_for_values»,
+                (λ e. absurd (false≢true e), tt),
+              ),
+            ),
+          ),
+        ),
+      ),
+    )
 
 pub returns : need.returns
 returns c =
@@ -67,4 +79,5 @@ returns c =
     record {
       answer = if-true (roomFor m x) (Ok tt) (Err Places) r ∙ if-true (allInRange (s .variables) x) _ (Err Literal) a;
       granted = sym n;
-      state = ap (λ (y : List (List ℤ)). record { variables = s .variables; leading = s .leading; clauses = y; reading = None }) cs ∙ if-true (appendable m x) (longer m x) m n }
+      state = ap (λ (y : List (List ℤ)). record { variables = s .variables; leading = s .leading; clauses = y; reading = None }) cs ∙ if-true (appendable m x) (longer m x) m n;
+    }

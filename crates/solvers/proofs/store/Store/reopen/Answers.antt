@@ -23,4 +23,5 @@ returns c =
     record {
       opened = c .resize .ensures .items ∙ sym (if-true (isOk (c .resize .result)) _ _ k) ∙ ap₂ (λ (x : List (Option Bool)) (m : ℕ). x ++ replicate m None) (ap (take v) (c .clear .ensures .items) ∙ take-all v [] (omega arith)) z;
       len = c .resize .ensures .len ∙ sym (if-true (isOk (c .resize .result)) _ _ k);
-      state = refl }
+      state = refl;
+    }

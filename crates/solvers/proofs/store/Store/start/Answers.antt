@@ -17,4 +17,5 @@ returns c =
     record {
       answer = if-true (startable v k) (Ok tt) (Err Size) s;
       granted = sym s;
-      state = model-none v k (vec-items (c .clear .last .self)) (vec-items (c .clear-2 .last .self)) (c .clear-2 .ensures .items) ∙ if-true (startable v k) (begun v k) (modelOf (c .args .self .now)) s }
+      state = model-none v k (vec-items (c .clear .last .self)) (vec-items (c .clear-2 .last .self)) (c .clear-2 .ensures .items) ∙ if-true (startable v k) (begun v k) (modelOf (c .args .self .now)) s;
+    }

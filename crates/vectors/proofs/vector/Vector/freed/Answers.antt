@@ -1,7 +1,6 @@
 -- Without a bit of care the value has none there either.
-use mathlib.Core.Path.{_≡_, sym, _∙_, ap, ap₂, subst}
+use mathlib.Core.Path.{_≡_, sym, _∙_, ap₂, subst}
 use lib.Bits.{bitAnd}
-use borrow.Author.Needs.{needs}
 use Rattle.vectors.specs.Vectors.{Cells, holding}
 use Rattle.vectors.specs.Views.{cellsOf}
 use Rattle.vectors.specs.Freeing.{FreesOnly, freed}
