@@ -4,7 +4,10 @@ ghost use mathlib.Core.Path.{_≡_};
 ghost use Rattle.formula.specs.Rows.{rowOf};
 use card::function::Function;
 
-const ROWS: [[[i8; 3]; 4]; 10] = [
+// The clauses of one function.
+pub(crate) type Row = [[i8; 3]; 4];
+
+const ROWS: [Row; 10] = [
     [[-1, 2, 0], [1, -2, 0], [0, 0, 0], [0, 0, 0]],
     [[-1, 2, 0], [-1, 3, 0], [1, -2, -3], [0, 0, 0]],
     [[1, -2, 0], [1, -3, 0], [-1, 2, 3], [0, 0, 0]],
@@ -18,7 +21,7 @@ const ROWS: [[[i8; 3]; 4]; 10] = [
 ];
 
 // The row of a function.
-pub(crate) fn row(function: Function) -> [[i8; 3]; 4]
+pub(crate) fn row(function: Function) -> Row
     ensures is_the_functions_row { λ r. ⌜ r ≡ rowOf function ⌝ }
 {
     ROWS[function.number() as usize]

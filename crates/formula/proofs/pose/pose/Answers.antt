@@ -20,7 +20,9 @@ returns-in-Break-stuck g c =
       refused-exactly-if-there-is-no-such-fault = search needs;
       refused-as-no-such-fault = search needs;
       solver-holds-exactly-the-formula-or-what-it-held = ap (λ o. posed w o m) (sym none);
-      formula-means-the-fault-is-led-and-fits = λ s e. absurd (none-some (sym none ∙ e)) }
+      satisfying-readings-are-those-of-showing-settings = λ s e. absurd (none-some (sym none ∙ e));
+      formula-is-led = λ s e. absurd (none-some (sym none ∙ e));
+      formula-is-within-the-solvers-limits = λ s e. absurd (none-some (sym none ∙ e)) }
 
 pub returns : need.returns
 returns g c =
@@ -29,9 +31,12 @@ returns g c =
     let s = c .in-Continue-stuck .stuck in
     let is : stuckOf w (c .args .fault) ≡ Some s = c .in-Continue-stuck .ensures tt .is-the-faults-line in
     let ew = c .card .ensures .has-the-same-netlist in
-    let laws : FormulaLaws w s = subst (λ n. FormulaLaws n s) ew (record { means = c .encode .ensures .satisfying-readings-are-those-of-showing-settings; led = c .encode .ensures .formula-is-led; fits = c .encode .ensures .formula-is-within-the-solvers-limits }) in
+    let here : FormulaLaws w s = subst (λ n. FormulaLaws n s) ew (record { means = c .encode .ensures .satisfying-readings-are-those-of-showing-settings; led = c .encode .ensures .formula-is-led; fits = c .encode .ensures .formula-is-within-the-solvers-limits }) in
+    let laws : ((t : Stuck) → stuckOf w (c .args .fault) ≡ Some t → FormulaLaws w t) = λ t e. subst (FormulaLaws w) (some-inj (sym is ∙ e)) here in
     record {
       refused-exactly-if-there-is-no-such-fault = c .in-Continue-stuck .ensures tt .refused-exactly-if-there-is-no-such-fault;
       refused-as-no-such-fault = (s, is);
       solver-holds-exactly-the-formula-or-what-it-held = c .encode .ensures .solver-holds-exactly-the-formula ∙ ap (λ n. holdsFormula n s) ew ∙ ap (λ o. posed w o m) (sym is);
-      formula-means-the-fault-is-led-and-fits = λ t e. subst (FormulaLaws w) (some-inj (sym is ∙ e)) laws }
+      satisfying-readings-are-those-of-showing-settings = λ t e. laws t e .means;
+      formula-is-led = λ t e. laws t e .led;
+      formula-is-within-the-solvers-limits = λ t e. laws t e .fits }
