@@ -9,3 +9,5 @@ pub mod Meant
 pub mod Leading
 pub mod Sizes
 pub mod Standing
+pub mod Puts
+pub mod Loops

@@ -70,6 +70,9 @@ table-right One = record { meaning = refl; asking = refl; in-table = refl; few-p
 row-says : (f : Function) (a : Bool) (bits : List Bool) → length bits ≡ pinCount f → Bool·beq (satisfies (a ∷ bits) (rows f)) (Bool·beq a (truth bitOperations f bits)) ≡ true
 row-says f a bits h = everywhere-at (suc (pinCount f)) (says f) (table-right f .meaning) (a ∷ bits) (omega arith)
 
+pub row-in-table : (f : Function) → inTable (suc (pinCount f)) (rows f) ≡ true
+row-in-table f = table-right f .in-table
+
 same-true : (s a t : Bool) → Bool·beq s (Bool·beq a t) ≡ true → s ≡ true → a ≡ t
 same-true true true true e h = refl
 same-true true true false e h = absurd (false≢true e)
@@ -96,7 +99,7 @@ abbrev pub Holds : List Bool → Link → Type 0
 Holds r l = getD r (pred (l .out)) false ≡ truth bitOperations (l .function) (readBits r (l .pins))
 
 fitted-in-table : (l : Link) → Fitted l → inTable (length (l .out ∷ l .pins)) (rows (l .function)) ≡ true
-fitted-in-table l h = ap (λ n. inTable (suc n) (rows (l .function))) h ∙ table-right (l .function) .in-table
+fitted-in-table l h = ap (λ n. inTable (suc n) (rows (l .function))) h ∙ row-in-table (l .function)
 
 pub link-means : (r : List Bool) (l : Link) → Fitted l → (Satisfies r (clausesOf l) → Holds r l) × (Holds r l → Satisfies r (clausesOf l))
 link-means r l h =

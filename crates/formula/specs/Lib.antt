@@ -6,3 +6,4 @@ pub mod Formulas
 pub mod RowLaws
 pub mod Meanings
 pub mod CardB
+pub mod Posing
