@@ -187,6 +187,16 @@ pub fn rows(seed: u64, inputs: usize, count: usize, out: &mut impl Write) -> io:
     Ok(())
 }
 
+// Every row of cells, for a card of few inputs.
+pub fn every_row(inputs: usize, out: &mut impl Write) -> io::Result<()> {
+    for number in 0..3usize.pow(inputs as u32) {
+        let row: Vec<u8> = (0..inputs).map(|j| b"01X"[number / 3usize.pow(j as u32) % 3]).collect();
+        out.write_all(&row)?;
+        writeln!(out)?;
+    }
+    Ok(())
+}
+
 // Formulas in DIMACS text, each with its leading count, budget and solver in comment lines.
 pub fn formulas(seed: u64, count: usize, out: &mut impl Write) -> io::Result<()> {
     let mut random = Random(seed);

@@ -72,6 +72,10 @@ fn main() -> io::Result<()> {
             let card = read(&fs::read(&words[3])?).expect("a good card");
             rows(number(2), card.inputs, number(4) as usize, &mut out)?
         }
+        Some("every") => {
+            let card = read(&fs::read(&words[2])?).expect("a good card");
+            cases::every_row(card.inputs, &mut out)?
+        }
         Some("inspect") => {
             for line in io::stdin().lock().lines() {
                 let text = inspected(&line?).unwrap_or_else(|refusal| refusal);
@@ -87,7 +91,7 @@ fn main() -> io::Result<()> {
                 writeln!(out, "{}", solve::answered(&problem))?;
             }
         }
-        _ => panic!("usage: second cases SEED COUNT | formulas SEED COUNT | card SEED | rows SEED CARD COUNT | inspect | expected CARD | caught CARD | solve"),
+        _ => panic!("usage: second cases SEED COUNT | formulas SEED COUNT | card SEED | rows SEED CARD COUNT | every CARD | inspect | expected CARD | caught CARD | solve"),
     }
     out.flush()
 }
