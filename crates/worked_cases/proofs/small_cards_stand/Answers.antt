@@ -14,7 +14,7 @@ use Rattle.worked_cases.proofs.small_cards_stand.Goals as goal
 pub returns : goal.returns
 unfolding read_from formula_of units closure descend settings try_each found catches_fault sheet_view digits sheet_text refusal_text
 returns c = record {
-  every-worked-case-holds = record {
+  every_worked_case_holds = record {
     readings = record { a = refl; b = refl; b_without_its_end = refl; operand_not_declared = refl; only_the_end = refl; a_wire = refl; an_output_again = refl; thirty_two_inputs = refl; a_33rd_input = refl };
     fault_counts = record { b_has_12 = refl; a_has_10 = refl; a_wire_has_2 = refl; c17_has_34 = refl };
     branch_is_not_net = record { fault_0 = refl; fault_8 = refl; the_net_is_caught = refl; the_branch_is_not = refl };

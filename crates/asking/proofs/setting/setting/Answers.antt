@@ -13,33 +13,33 @@ byte false = refl
 pub loop-j-init : goal.loop-j-init
 loop-j-init g c = weighing_none _ _
 
-pub overflow-mul-care : goal.overflow-mul-care
-overflow-mul-care g c =
-    let lt = care_fits _ _ (c.loop-j.j - 1) _ _ _ (omega arith) c.loop-j.auto.j c.loop-j.invariant c.requires.at-most-32-inputs in
+pub overflow_mul-care : goal.overflow_mul-care
+overflow_mul-care g c =
+    let lt = care_fits _ _ (c.loop-j.j - 1) _ _ _ (omega arith) c.loop-j.auto.j c.loop-j.invariant c.requires.at_most_32_inputs in
     Fits-bits 32 tt (omega arith)
 
-pub overflow-add-care : goal.overflow-add-care
-overflow-add-care g c = Fits-bits 32 tt (care_fits _ _ (c.loop-j.j - 1) _ _ _ (omega arith) c.loop-j.auto.j c.loop-j.invariant c.requires.at-most-32-inputs)
+pub overflow_add-care : goal.overflow_add-care
+overflow_add-care g c = Fits-bits 32 tt (care_fits _ _ (c.loop-j.j - 1) _ _ _ (omega arith) c.loop-j.auto.j c.loop-j.invariant c.requires.at_most_32_inputs)
 
-pub overflow-mul-value : goal.overflow-mul-value
-overflow-mul-value g c =
-    let lt = value_fits _ _ (c.loop-j.j - 1) _ _ _ (omega arith) c.loop-j.auto.j c.loop-j.invariant c.requires.at-most-32-inputs false in
+pub overflow_mul-value : goal.overflow_mul-value
+overflow_mul-value g c =
+    let lt = value_fits _ _ (c.loop-j.j - 1) _ _ _ (omega arith) c.loop-j.auto.j c.loop-j.invariant c.requires.at_most_32_inputs false in
     Fits-bits 32 tt (omega arith)
 
-pub overflow-add-value : goal.overflow-add-value
-overflow-add-value g c =
+pub overflow_add-value : goal.overflow_add-value
+overflow_add-value g c =
     let e : c.from.result ≡ cond c.bit.result 1 0 = c.from.ensures ∙ byte c.bit.result in
-    let lt = value_fits _ _ (c.loop-j.j - 1) _ _ _ (omega arith) c.loop-j.auto.j c.loop-j.invariant c.requires.at-most-32-inputs c.bit.result in
+    let lt = value_fits _ _ (c.loop-j.j - 1) _ _ _ (omega arith) c.loop-j.auto.j c.loop-j.invariant c.requires.at_most_32_inputs c.bit.result in
     Fits-bits 32 tt (omega arith)
 
 pub loop-j-preserved : goal.loop-j-preserved
 loop-j-preserved g c =
     let e : c.from.result ≡ cond c.bit.result 1 0 = c.from.ensures ∙ byte c.bit.result in
     subst (λ (n : ℕ). Weighing (g.S.Solver.model c.args.solver.now) c.args.inputs (c.loop-j.j - 1) (2 * c.loop-j.care + 1) (2 * c.loop-j.value + n)) (sym e)
-    (weighing_more _ _ (c.loop-j.j - 1) _ _ _ (omega arith) c.loop-j.auto.j c.loop-j.invariant c.bit.result c.bit.ensures.is-the-readings-bit)
+    (weighing_more _ _ (c.loop-j.j - 1) _ _ _ (omega arith) c.loop-j.auto.j c.loop-j.invariant c.bit.result c.bit.ensures.is_the_readings_bit)
 
 pub unreachable-requires : goal.unreachable-requires
-unreachable-requires g c = false≢true (c.in-Err.ensures.in-form-means-bit-by-bit.1 (weighing_in_form _ _ _ _ _ c.loop-j-test.false c.loop-j.invariant))
+unreachable-requires g c = false≢true (c.in-Err.ensures.in_form_means_bit_by_bit.1 (weighing_in_form _ _ _ _ _ c.loop-j-test.false c.loop-j.invariant))
 
 pub returns : goal.returns
-returns g c = record { fixes-each-input-to-its-bit = λ reading e long fits. c.in-Ok.ensures.holds-both-numbers ∙ weighing_all _ _ _ _ _ c.loop-j-test.false c.loop-j.invariant reading e long fits }
+returns g c = record { fixes_each_input_to_its_bit = λ reading e long fits. c.in-Ok.ensures.holds_both_numbers ∙ weighing_all _ _ _ _ _ c.loop-j-test.false c.loop-j.invariant reading e long fits }

@@ -5,10 +5,10 @@ use Rattle.faults.proofs.Caught.{opposite_read, somewhere_all, somewhere_here, s
 use Rattle.faults.proofs.catching.opposite_somewhere.Goals as goal
 
 pub bounds-good-net : goal.bounds-good-net
-bounds-good-net c = below_at 256 c.args.outputs.now c.loop-net.net-index 0 c.requires.outputs-are-nets c.loop-net-test.true
+bounds-good-net c = below_at 256 c.args.outputs.now c.loop-net.net-index 0 c.requires.outputs_are_nets c.loop-net-test.true
 
 pub bounds-faulty-net : goal.bounds-faulty-net
-bounds-faulty-net c = below_at 256 c.args.outputs.now c.loop-net.net-index 0 c.requires.outputs-are-nets c.loop-net-test.true
+bounds-faulty-net c = below_at 256 c.args.outputs.now c.loop-net.net-index 0 c.requires.outputs_are_nets c.loop-net-test.true
 
 pub returns-then-opposite : goal.returns-then-opposite
 returns-then-opposite c =
@@ -16,8 +16,8 @@ returns-then-opposite c =
     let faulty = c.args.faulty.now in
     let outputs = c.args.outputs.now in
     let i = c.loop-net.net-index in
-    let t = opposite_read good faulty (get_or outputs i 0) 256 _ _ true (below_at 256 outputs i 0 c.requires.outputs-are-nets c.loop-net-test.true) c.told-good c.told-faulty c.if-opposite.ensures.one-is-low-and-the-other-high in
-    record { says-whether-some-are-opposite = somewhere_here good faulty outputs i c.loop-net-test.true t c.loop-net.invariant }
+    let t = opposite_read good faulty (get_or outputs i 0) 256 _ _ true (below_at 256 outputs i 0 c.requires.outputs_are_nets c.loop-net-test.true) c.told-good c.told-faulty c.if-opposite.ensures.one_is_low_and_the_other_high in
+    record { says_whether_some_are_opposite = somewhere_here good faulty outputs i c.loop-net-test.true t c.loop-net.invariant }
 
 pub loop-net-preserved : goal.loop-net-preserved
 loop-net-preserved c =
@@ -25,8 +25,8 @@ loop-net-preserved c =
     let faulty = c.args.faulty.now in
     let outputs = c.args.outputs.now in
     let i = c.loop-net.net-index in
-    let t = opposite_read good faulty (get_or outputs i 0) 256 _ _ false (below_at 256 outputs i 0 c.requires.outputs-are-nets c.loop-net-test.true) c.told-good c.told-faulty c.if-opposite.ensures.one-is-low-and-the-other-high in
+    let t = opposite_read good faulty (get_or outputs i 0) 256 _ _ false (below_at 256 outputs i 0 c.requires.outputs_are_nets c.loop-net-test.true) c.told-good c.told-faulty c.if-opposite.ensures.one_is_low_and_the_other_high in
     somewhere_later good faulty outputs i c.loop-net-test.true t c.loop-net.invariant
 
 pub returns : goal.returns
-returns c = record { says-whether-some-are-opposite = somewhere_all c.args.good.now c.args.faulty.now c.args.outputs.now c.loop-net.net-index c.loop-net-test.false c.loop-net.invariant }
+returns c = record { says_whether_some_are_opposite = somewhere_all c.args.good.now c.args.faulty.now c.args.outputs.now c.loop-net.net-index c.loop-net-test.false c.loop-net.invariant }

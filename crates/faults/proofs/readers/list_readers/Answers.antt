@@ -6,7 +6,7 @@ use Rattle.faults.proofs.Listed.{listed_all, listed_more, on_card}
 use Rattle.faults.proofs.readers.list_readers.Goals as goal
 
 pub loop-i-preserved : goal.loop-i-preserved
-loop-i-preserved c = listed_more c.inputs-inputs.result c.loop-i.i _ c.gates-gate-items.result.now _ (vec_items c.loop-i.list) _ c.loop-i-test.true refl c.in-ok-push-pins.ensures.appends-the-pins-in-order c.loop-i.invariant
+loop-i-preserved c = listed_more c.inputs-inputs.result c.loop-i.i _ c.gates-gate-items.result.now _ (vec_items c.loop-i.list) _ c.loop-i-test.true refl c.in_ok-push_pins.ensures.appends_the_pins_in_order c.loop-i.invariant
 
 pub returns : goal.returns
 returns c =
@@ -14,6 +14,6 @@ returns c =
     let list = vec_items c.loop-i.list in
     let all : list ≡ readers card =
     listed_all c.inputs-inputs.result c.loop-i.i c.gates-gate-items.result.now list c.loop-i-test.false c.loop-i.invariant
-    ∙ ap (λ k. gate_readers k c.gates-gate-items.result.now) c.inputs-inputs.ensures.counts-the-inputs
-    ∙ ap (gate_readers card.inputs) c.gates-gate-items.ensures.are-the-gates in
-    record { lists-the-readers = all; reads-nets-of-the-card = on_card card list c.inputs-inputs.ensures.every-card-keeps-the-rules all }
+    ∙ ap (λ k. gate_readers k c.gates-gate-items.result.now) c.inputs-inputs.ensures.counts_the_inputs
+    ∙ ap (gate_readers card.inputs) c.gates-gate-items.ensures.are_the_gates in
+    record { lists_the_readers = all; reads_nets_of_the_card = on_card card list c.inputs-inputs.ensures.every_card_keeps_the_rules all }

@@ -11,12 +11,12 @@ loop-reader-preserved c =
     let i = c.loop-reader.reader-index in
     let list = c.args.list.now in
     let d : Reader = record { line = Net 0; net = 0 } in
-    let on = c.requires.read-nets-of-a-card i d c.loop-reader-test.true in
-    let e = c.requires.counts-are-the-lists (get_or list i d).net on in
+    let on = c.requires.read_nets_of_a_card i d c.loop-reader-test.true in
+    let e = c.requires.counts_are_the_lists (get_or list i d).net on in
     elim c.if-counts-reader-ge-SHARED.branch [
-      | then-counts-reader-ge-SHARED+in-ok-push w ↦ let t = w.if-counts-reader-ge-SHARED.true in shared_more_yes list list (vec_items c.loop-reader.found) _ i (get_or list i d) d c.loop-reader-test.true refl (omega arith) (ap vec_items w.found-is ∙ w.in-ok-push.ensures.items) c.loop-reader.invariant
+      | then-counts-reader-ge-SHARED+in-ok-push w ↦ let t = w.if-counts-reader-ge-SHARED.true in shared_more_yes list list (vec_items c.loop-reader.found) _ i (get_or list i d) d c.loop-reader-test.true refl (omega arith) (ap vec_items w.found-is ∙ w.in_ok-push.ensures.items) c.loop-reader.invariant
       | else-counts-reader-ge-SHARED w ↦ let t = w.if-counts-reader-ge-SHARED.false in shared_more_no list list _ i (get_or list i d) d c.loop-reader-test.true refl (omega arith) (ap vec_items w.found-is ∙ c.loop-reader.invariant)
     ]
 
 pub returns : goal.returns
-returns c = record { keeps-those-that-share = shared_all c.args.list.now c.args.list.now (vec_items c.loop-reader.found) c.loop-reader.reader-index c.loop-reader-test.false c.loop-reader.invariant }
+returns c = record { keeps_those_that_share = shared_all c.args.list.now c.args.list.now (vec_items c.loop-reader.found) c.loop-reader.reader-index c.loop-reader-test.false c.loop-reader.invariant }

@@ -15,16 +15,16 @@ loop-net-preserved g c =
     let j = c.loop-net.net in
     let t = Some c.args.stuck in
     let m = g.S.Solver.model c.loop-net.solver in
-    let eo : c.net-variable-out.result ≡ faulty n j = c.net-variable-out.ensures.is-the-nets-variable in
-    let es : c.source-variable-source.result ≡ cond (sticks_net t j) (stuck_line n) (good j) = c.source-variable-source.ensures.is-the-stuck-line-or-the-good-input in
-    let e = inputs_more m _ n c.args.inputs j t c.loop-net-test.true (c.put.ensures.appends-the-functions-clauses ∙ (λ k. more m (over (eo k ∷ es k ∷ []) (rows Ida)))) in
-    (c.put.ensures.variables-stay ∙ x.0, omega (arith, x.1, c.put.ensures.takes-16-places-at-most), e ∙ x.2)
+    let eo : c.net_variable-out.result ≡ faulty n j = c.net_variable-out.ensures.is_the_nets_variable in
+    let es : c.source_variable-source.result ≡ cond (sticks_net t j) (stuck_line n) (good j) = c.source_variable-source.ensures.is_the_stuck_line_or_the_good_input in
+    let e = inputs_more m _ n c.args.inputs j t c.loop-net-test.true (c.put.ensures.appends_the_functions_clauses ∙ (λ k. more m (over (eo k ∷ es k ∷ []) (rows Ida)))) in
+    (c.put.ensures.variables_stay ∙ x.0, omega (arith, x.1, c.put.ensures.takes_16_places_at_most), e ∙ x.2)
 
 pub returns : goal.returns
 returns g c =
     let x = c.loop-net.invariant in
     record {
-      appends-the-inputs-clauses-in-order = inputs_all _ _ c.args.nets c.args.inputs c.loop-net.net (Some c.args.stuck) c.loop-net-test.false x.2;
-      variables-stay = x.0;
-      takes-16-places-for-each-at-most = search rules;
+      appends_the_inputs_clauses_in_order = inputs_all _ _ c.args.nets c.args.inputs c.loop-net.net (Some c.args.stuck) c.loop-net-test.false x.2;
+      variables_stay = x.0;
+      takes_16_places_for_each_at_most = search rules;
     }

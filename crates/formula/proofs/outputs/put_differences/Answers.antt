@@ -9,8 +9,8 @@ use Rattle.formula.proofs.outputs.put_differences.Goals as goal
 pub loop-i-preserved : goal.loop-i-preserved
 loop-i-preserved g c =
     let x = c.loop-i.invariant in
-    let r = c.difference-variable.result in
-    let e = c.difference-variable.ensures.comes-after-the-line in (
+    let r = c.difference_variable.result in
+    let e = c.difference_variable.ensures.comes_after_the_line in (
       length-set _ _ _ ∙ x.0,
       rising_more c.loop-i.clause (c.args.nets + c.args.nets + 2) c.loop-i.i _ (omega (arith, x.0)) (to_z_pos w16 r (omega (arith, e)) ∙ ap pos e) x.1,
     )
@@ -24,4 +24,4 @@ returns g c =
     let ev : suc v ≡ n + n + 2 = omega arith in
     let ec : take c.args.count c.loop-i.clause ≡ rising (suc v) c.args.count = ap (λ k. take k c.loop-i.clause) (sym ei) ∙ x.1 ∙ ap₂ rising (sym ev) ei in
     let m = g.S.Solver.model c.args.solver.now in
-    record { appends-the-clause = rising_put m _ v c.args.count _ ec (omega arith) (omega arith) c.append.ensures.state ∙ ap (λ k. longer m (rising k c.args.count)) ev }
+    record { appends_the_clause = rising_put m _ v c.args.count _ ec (omega arith) (omega arith) c.append.ensures.state ∙ ap (λ k. longer m (rising k c.args.count)) ev }

@@ -7,18 +7,18 @@ use Rattle.formula.proofs.Renamed.{in_table}
 use Rattle.formula.proofs.Ruled.{row_in_table}
 use Rattle.formula.proofs.put.put.Goals as goal
 
-pub put-clause-requires : goal.put-clause-requires
-put-clause-requires g c =
+pub put_clause-requires : goal.put_clause-requires
+put_clause-requires g c =
     let vs = c.args.variables.now in
     let row = c.row-row.result in
     let x = c.loop-clause.invariant in
     let four : length row ≡ 4 = search rules in
-    let t : in_table (length vs) (clauses_in row) ≡ true = ap₂ (λ n r. in_table n (clauses_in r)) c.requires.has-the-functions-pins c.row-row.ensures.is-the-functions-row ∙ row_in_table c.args.function in
+    let t : in_table (length vs) (clauses_in row) ≡ true = ap₂ (λ n r. in_table n (clauses_in r)) c.requires.has_the_functions_pins c.row-row.ensures.is_the_functions_row ∙ row_in_table c.args.function in
     record {
-      codes-name-variables = row_in_range (length vs) row c.loop-clause.clause t (omega arith);
-      are-the-solvers-variables = subst (λ v. AreVariables v vs) (sym x.0) c.requires.are-the-solvers-variables;
-      solver-has-few-variables = omega (arith, x.0, c.requires.solver-has-few-variables);
-      solver-has-room = omega (arith, x.1, c.requires.solver-has-room);
+      codes_name_variables = row_in_range (length vs) row c.loop-clause.clause t (omega arith);
+      are_the_solvers_variables = subst (λ v. AreVariables v vs) (sym x.0) c.requires.are_the_solvers_variables;
+      solver_has_few_variables = omega (arith, x.0, c.requires.solver_has_few_variables);
+      solver_has_room = omega (arith, x.1, c.requires.solver_has_room);
     }
 
 pub loop-clause-preserved : goal.loop-clause-preserved
@@ -27,9 +27,9 @@ loop-clause-preserved g c =
     let row = c.row-row.result in
     let x = c.loop-clause.invariant in
     let four : length row ≡ 4 = search rules in (
-      c.put-clause.ensures.variables-stay ∙ x.0,
-      omega (arith, x.1, c.put-clause.ensures.takes-4-places-at-most),
-      row_more (g.S.Solver.model c.loop-clause.solver) _ vs row c.loop-clause.clause (omega arith) c.put-clause.ensures.appends-the-clause ∙ x.2,
+      c.put_clause.ensures.variables_stay ∙ x.0,
+      omega (arith, x.1, c.put_clause.ensures.takes_4_places_at_most),
+      row_more (g.S.Solver.model c.loop-clause.solver) _ vs row c.loop-clause.clause (omega arith) c.put_clause.ensures.appends_the_clause ∙ x.2,
     )
 
 pub returns : goal.returns
@@ -40,7 +40,7 @@ returns g c =
     let four : length row ≡ 4 = search rules in
     let m = g.S.Solver.model c.args.solver.now in
     record {
-      appends-the-functions-clauses = row_all (g.S.Solver.model c.loop-clause.solver) _ vs row c.loop-clause.clause (omega arith) (x.2 ∙ ap (λ r. more m (over vs (clauses_in r))) c.row-row.ensures.is-the-functions-row);
-      variables-stay = x.0;
-      takes-16-places-at-most = omega (arith, x.1);
+      appends_the_functions_clauses = row_all (g.S.Solver.model c.loop-clause.solver) _ vs row c.loop-clause.clause (omega arith) (x.2 ∙ ap (λ r. more m (over vs (clauses_in r))) c.row-row.ensures.is_the_functions_row);
+      variables_stay = x.0;
+      takes_16_places_at_most = omega (arith, x.1);
     }

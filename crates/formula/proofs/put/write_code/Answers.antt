@@ -10,17 +10,17 @@ pub literal-requires : goal.literal-requires
 literal-requires c =
     let vs = c.args.variables.now in
     record {
-      names-a-variable = ap (in_range (length vs)) (to_z-of_z w8 c.args.code c.ranges.code) ∙ alone_in_range (length vs) c.args.code c.requires.code-names-a-variable (λ z. c.if-code-eq0.false (ap (of_z w8) z));
-      few-variables = c.requires.few-variables;
+      names_a_variable = ap (in_range (length vs)) (to_z-of_z w8 c.args.code c.ranges.code) ∙ alone_in_range (length vs) c.args.code c.requires.code_names_a_variable (λ z. c.if-code-eq0.false (ap (of_z w8) z));
+      few_variables = c.requires.few_variables;
     }
 
 pub returns-then-code-eq0 : goal.returns-then-code-eq0
 returns-then-code-eq0 c =
     let z : c.args.code ≡ pos 0 = sym (to_z-of_z w8 c.args.code c.ranges.code) ∙ ap (to_z w8) c.if-code-eq0.true in
     record {
-      array-keeps-its-length = refl;
-      at-most-one-more = omega arith;
-      writes-the-literal-behind = code_skipped (literal_of c.args.variables.now) c.args.code c.args.literals.now c.args.count z;
+      array_keeps_its_length = refl;
+      at_most_one_more = omega arith;
+      writes_the_literal_behind = code_skipped (literal_of c.args.variables.now) c.args.code c.args.literals.now c.args.count z;
     }
 
 pub returns : goal.returns
@@ -29,8 +29,8 @@ returns c =
     let f : SFits w16 c.literal.result = search rules in
     let l : c.args.count < length c.args.literals.now = search rules in
     record {
-      array-keeps-its-length = length-set _ _ _;
-      at-most-one-more = omega arith;
-      writes-the-literal-behind = code_written (literal_of vs) c.args.code c.args.literals.now c.args.count _ l (λ z. c.if-code-eq0.false (ap (of_z w8) z))
-          (to_z-of_z w16 c.literal.result f ∙ c.literal.ensures.is-the-codes-literal ∙ ap (literal_of vs) (to_z-of_z w8 c.args.code c.ranges.code));
+      array_keeps_its_length = length-set _ _ _;
+      at_most_one_more = omega arith;
+      writes_the_literal_behind = code_written (literal_of vs) c.args.code c.args.literals.now c.args.count _ l (λ z. c.if-code-eq0.false (ap (of_z w8) z))
+          (to_z-of_z w16 c.literal.result f ∙ c.literal.ensures.is_the_codes_literal ∙ ap (literal_of vs) (to_z-of_z w8 c.args.code c.ranges.code));
     }

@@ -3,4 +3,4 @@ use Rattle.history.proofs.Reaching.{reached_stands}
 use Rattle.history.proofs.laws.law_of_jobs_stands.Goals as goal
 
 pub returns : goal.returns
-returns c = record { every-history-keeps-the-promise-and-every-verdict = law }
+returns c = record { every_history_keeps_the_promise_and_every_verdict = law }

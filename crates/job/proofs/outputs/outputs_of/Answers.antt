@@ -12,15 +12,15 @@ pub unreachable-requires-in-None : goal.unreachable-requires-in-None
 unreachable-requires-in-None c =
     let k = netlist_of c.args.card.now in
     let x = cells_of c.args.vector.now in
-    let m = c.in-Ok.ensures.answers-how-many-or-names-the-refusal in
-    let wrote = c.in-Ok.ensures.writes-the-characters-or-nothing in
-    false≢true (c.in-None.ensures.every-row-of-cells-is-read (output_cells k x) (cells_long k x c.in-Ok.count m _ c.expected-outputs.new.out (take (c.in-Ok.count - 0) c.expected-outputs.new.out) wrote (whole c.in-Ok.count c.expected-outputs.new.out)) c.in-Ok.ensures.answers-one-to-thirty-two.1 (cells_print k x c.in-Ok.count m _ c.expected-outputs.new.out (take (c.in-Ok.count - 0) c.expected-outputs.new.out) wrote (whole c.in-Ok.count c.expected-outputs.new.out)))
+    let m = c.in-Ok.ensures.answers_how_many_or_names_the_refusal in
+    let wrote = c.in-Ok.ensures.writes_the_characters_or_nothing in
+    false≢true (c.in-None.ensures.every_row_of_cells_is_read (output_cells k x) (cells_long k x c.in-Ok.count m _ c.expected_outputs.new.out (take (c.in-Ok.count - 0) c.expected_outputs.new.out) wrote (whole c.in-Ok.count c.expected_outputs.new.out)) c.in-Ok.ensures.answers_one_to_thirty_two.1 (cells_print k x c.in-Ok.count m _ c.expected_outputs.new.out (take (c.in-Ok.count - 0) c.expected_outputs.new.out) wrote (whole c.in-Ok.count c.expected_outputs.new.out)))
 
 pub returns : goal.returns
 returns c =
     let k = netlist_of c.args.card.now in
     let x = cells_of c.args.vector.now in
     record {
-      shows-the-outputs = shows_outputs k x c.in-Ok.count c.in-Ok.ensures.answers-how-many-or-names-the-refusal _ c.expected-outputs.new.out (take (c.in-Ok.count - 0) c.expected-outputs.new.out) c.in-Ok.ensures.writes-the-characters-or-nothing (whole c.in-Ok.count c.expected-outputs.new.out) (cells_of c.in-Some.outputs)
-          c.in-Some.ensures.prints-back c.in-Some.ensures.is-in-form c.in-Ok.ensures.a_bit_shown_is_what_every_filling_makes;
+      shows_the_outputs = shows_outputs k x c.in-Ok.count c.in-Ok.ensures.answers_how_many_or_names_the_refusal _ c.expected_outputs.new.out (take (c.in-Ok.count - 0) c.expected_outputs.new.out) c.in-Ok.ensures.writes_the_characters_or_nothing (whole c.in-Ok.count c.expected_outputs.new.out) (cells_of c.in-Some.outputs)
+          c.in-Some.ensures.prints_back c.in-Some.ensures.is_in_form c.in-Ok.ensures.a_bit_shown_is_what_every_filling_makes;
     }

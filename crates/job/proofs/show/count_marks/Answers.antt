@@ -22,7 +22,7 @@ loop-mark-preserved c =
 
 pub returns : goal.returns
 returns c = record {
-  counts-the-open = counted_all is_open _ c.loop-mark.mark-index _ (omega arith) c.loop-mark.invariant.opens;
-  counts-the-detected = counted_all is_detected _ c.loop-mark.mark-index _ (omega arith) c.loop-mark.invariant.detecteds;
-  counts-the-untestable = counted_all is_untestable _ c.loop-mark.mark-index _ (omega arith) c.loop-mark.invariant.untestables;
+  counts_the_open = counted_all is_open _ c.loop-mark.mark-index _ (omega arith) c.loop-mark.invariant.opens;
+  counts_the_detected = counted_all is_detected _ c.loop-mark.mark-index _ (omega arith) c.loop-mark.invariant.detecteds;
+  counts_the_untestable = counted_all is_untestable _ c.loop-mark.mark-index _ (omega arith) c.loop-mark.invariant.untestables;
 }

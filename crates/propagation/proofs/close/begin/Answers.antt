@@ -23,22 +23,22 @@ loop-c-init c =
 
 pub returns-in-Broken : goal.returns-in-Broken
 returns-in-Broken c =
-    let b = look_broken (clauses_of c.args.clauses) c.loop-c.first _ c.loop-c.values (sym c.in-Broken.ensures.is-the-first-such-clause) in
+    let b = look_broken (clauses_of c.args.clauses) c.loop-c.first _ c.loop-c.values (sym c.in-Broken.ensures.is_the_first_such_clause) in
     record { reached = c.loop-c.invariant.1; broken = λ _. b; pending = λ e. absurd (false≢true e); grown = c.loop-c.invariant.2; space = c.loop-c.invariant.3 }
 
 pub make-requires : goal.make-requires
 make-requires c =
     let v = c.loop-c.values in
     let f : SFits w16 c.in-Unit.literal = search rules in
-    let o = scan_open v c.loop-c.first _ _ c.in-Unit.literal (sym c.in-Unit.ensures.is-the-first-such-clause) in
+    let o = scan_open v c.loop-c.first _ _ c.in-Unit.literal (sym c.in-Unit.ensures.is_the_first_such_clause) in
     let i = open_inside v (place c.in-Unit.literal) o in
     let p = open_some v (length v) (place c.in-Unit.literal) o i in
     record { inside = simp to_z-of_z i; space = omega (arith, c.loop-c.invariant.4, p) }
 
-pub overflow-add-first : goal.overflow-add-first
-overflow-add-first c =
+pub overflow_add-first : goal.overflow_add-first
+overflow_add-first c =
     let cl = c.args.clauses in
-    let m = look_unit (clauses_of cl) c.loop-c.first c.in-Unit.c c.loop-c.values _ c.in-Unit.literal c.loop-c.invariant.0 (sym c.in-Unit.ensures.is-the-first-such-clause) in
+    let m = look_unit (clauses_of cl) c.loop-c.first c.in-Unit.c c.loop-c.values _ c.in-Unit.literal c.loop-c.invariant.0 (sym c.in-Unit.ensures.is_the_first_such_clause) in
     let h : c.in-Unit.c < length cl.ends.now = omega (arith, m.known, clauses_length cl.literals.now 0 cl.ends.now) in
     search rules
 
@@ -47,7 +47,7 @@ loop-c-smaller c =
     let v = c.loop-c.values in
     let f : SFits w16 c.in-Unit.literal = search rules in
     let m = simp to_z-of_z at c.make.ensures.values in
-    let g = scan_falls v c.loop-c.first _ _ c.in-Unit.literal (sym c.in-Unit.ensures.is-the-first-such-clause) in
+    let g = scan_falls v c.loop-c.first _ _ c.in-Unit.literal (sym c.in-Unit.ensures.is_the_first_such_clause) in
     omega (arith, g, ap (λ a. open_in (length a) a) m)
 
 pub loop-c-preserved : goal.loop-c-preserved
@@ -60,7 +60,7 @@ loop-c-preserved c =
     let t = take c.loop-c.trail.len c.loop-c.trail.entries.now in
     let s = take n c.args.trail.now.entries.now in
     let f : SFits w16 l = search rules in
-    let e = sym c.in-Unit.ensures.is-the-first-such-clause in
+    let e = sym c.in-Unit.ensures.is_the_first_such_clause in
     let q = look_unit cs c.loop-c.first c.in-Unit.c v (drop n t) l c.loop-c.invariant.0 e in
     let mv = simp to_z-of_z at c.make.ensures.values in
     let mt = simp to_z-of_z at c.make.ensures.trail in
@@ -80,5 +80,5 @@ loop-c-preserved c =
 
 pub returns-in-Nothing : goal.returns-in-Nothing
 returns-in-Nothing c =
-    let p = look_end (clauses_of c.args.clauses) c.loop-c.first c.loop-c.values _ c.loop-c.invariant.0 (sym c.in-Nothing.ensures.is-the-first-such-clause) in
+    let p = look_end (clauses_of c.args.clauses) c.loop-c.first c.loop-c.values _ c.loop-c.invariant.0 (sym c.in-Nothing.ensures.is_the_first_such_clause) in
     record { reached = c.loop-c.invariant.1; broken = λ e. absurd (true≢false e); pending = λ _. p; grown = c.loop-c.invariant.2; space = c.loop-c.invariant.3 }

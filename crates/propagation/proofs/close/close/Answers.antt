@@ -13,7 +13,7 @@ returns-then-not-begin c =
 pub follow-requires : goal.follow-requires
 follow-requires c =
     let e = c.if-not-begin.ensures in
-    let n = c.len-front.ensures.counts-the-entries in
+    let n = c.len-front.ensures.counts_the_entries in
     let t = take c.begin.new.trail.len c.begin.new.trail.entries.now in
     let h = grown_longer c.args.values.now c.begin.new.values _ _ e.grown in
     let k = length-take c.args.trail.now.len c.args.trail.now.entries.now in

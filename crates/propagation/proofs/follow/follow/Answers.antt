@@ -39,7 +39,7 @@ loop-front-preserved c =
       g,
       r,
       omega (arith, g.room, k, m, c.visit.new.trail.fits, c.args.trail.now.fits, r, c.requires.space),
-      omega (arith, h, l, m, c.loop-front.trail.fits, c.visit.new.trail.fits, c.loop-front-test.true, c.len.ensures.counts-the-entries),
+      omega (arith, h, l, m, c.loop-front.trail.fits, c.visit.new.trail.fits, c.loop-front-test.true, c.len.ensures.counts_the_entries),
     )
 
 pub returns : goal.returns
@@ -47,7 +47,7 @@ returns c =
     let cs = clauses_of c.args.clauses in
     let v = c.loop-front.values in
     let t = take c.loop-front.trail.len c.loop-front.trail.entries.now in
-    let l : length (drop c.loop-front.front t) ≡ 0 = simp (length-drop, length-take) (omega (arith, c.loop-front-test.false, c.len.ensures.counts-the-entries)) in
+    let l : length (drop c.loop-front.front t) ≡ 0 = simp (length-drop, length-take) (omega (arith, c.loop-front-test.false, c.len.ensures.counts_the_entries)) in
     let q = pending_end cs v _ c.loop-front.invariant.0 l in
     record {
       closes = closes_whole cs c.args.values.now v _ refl c.loop-front.invariant.1 (rest_whole v cs q) (rest_still v cs q);

@@ -9,13 +9,13 @@ use Rattle.propagation.proofs.Trailing.{grown_none}
 use Rattle.propagation.proofs.Followed.{front_wide, visit_start, here, visited, visit_pair, visit_before, visit_broken, visit_goes, visit_end}
 use Rattle.propagation.proofs.follow.visit.Goals as goal
 
-pub bounds-clauses-negated-key-of : goal.bounds-clauses-negated-key-of
-bounds-clauses-negated-key-of c =
+pub bounds-clauses-negated_key_of : goal.bounds-clauses-negated_key_of
+bounds-clauses-negated_key_of c =
     let t = take c.args.trail.now.len c.args.trail.now.entries.now in
     let n : c.args.front < length t = simp length-take (omega (arith, c.requires.inside, c.args.trail.now.fits)) in
     let f : SFits w16 c.get.result = search rules in
-    let k = simp to_z-of_z at c.negated-key-of.ensures.is-the-negations-number in
-    let e = c.get.ensures.is-the-entry-there ∙ get_or_default t c.args.front c.get.result (pos 0) n in
+    let k = simp to_z-of_z at c.negated_key_of.ensures.is_the_negations_number in
+    let e = c.get.ensures.is_the_entry_there ∙ get_or_default t c.args.front c.get.result (pos 0) n in
     let w = front_wide (clauses_of c.args.clauses) c.args.values.now t c.args.front (length c.args.clauses.lasts.now) c.requires.pending n c.requires.wide in
     omega (arith, k ∙ ap against e, w)
 
@@ -25,8 +25,8 @@ loop-below-init c =
     let t = take c.args.trail.now.len c.args.trail.now.entries.now in
     let n : c.args.front < length t = simp length-take (omega (arith, c.requires.inside, c.args.trail.now.fits)) in
     let f : SFits w16 c.get.result = search rules in
-    let k = simp to_z-of_z at c.negated-key-of.ensures.is-the-negations-number in
-    let e = c.get.ensures.is-the-entry-there ∙ get_or_default t c.args.front c.get.result (pos 0) n in
+    let k = simp to_z-of_z at c.negated_key_of.ensures.is_the_negations_number in
+    let e = c.get.ensures.is_the_entry_there ∙ get_or_default t c.args.front c.get.result (pos 0) n in
     let w = front_wide (clauses_of cl) c.args.values.now t c.args.front (length cl.lasts.now) c.requires.pending n c.requires.wide in (
       visit_start cl.literals.now cl.ends.now cl.lasts.now cl.places.now c.requires.listed c.args.values.now t c.args.front (against (get_or t c.args.front (pos 0))) _ n refl w (ap (λ i. get_or cl.lasts.now i 0) (k ∙ ap against e)) c.requires.pending,
       stop,
@@ -35,8 +35,8 @@ loop-below-init c =
       c.requires.space,
     )
 
-pub offset-bounds-clauses-below : goal.offset-bounds-clauses-below
-offset-bounds-clauses-below c =
+pub offset_bounds-clauses-below : goal.offset_bounds-clauses-below
+offset_bounds-clauses-below c =
     let s = c.loop-below.invariant.0.stands c.loop-below-test.true in
     let h : c.loop-below.below - 1 < length c.args.clauses.places.now = omega (arith, s.0, c.requires.listed.roomy, c.loop-below-test.true) in
     search rules

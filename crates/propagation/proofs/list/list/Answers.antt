@@ -7,14 +7,14 @@ use Rattle.propagation.proofs.list.list.Goals as goal
 pub loop-c-init : goal.loop-c-init
 loop-c-init c = (
   refl,
-  headed_none c.args.literals.now c.clear.new.lasts c.clear.ensures.all-are-empty,
+  headed_none c.args.literals.now c.clear.new.lasts c.clear.ensures.all_are_empty,
   λ p h. absurd (not-suc-le-zero h),
   λ p h. absurd (not-suc-le-zero h),
   λ d p h. absurd (not-suc-le-zero h),
 )
 
-pub list-clause-requires : goal.list-clause-requires
-list-clause-requires c =
+pub list_clause-requires : goal.list_clause-requires
+list_clause-requires c =
     let e = clause_ends c.args.literals.now 0 c.args.ends.now c.loop-c.c c.requires.ended c.loop-c-test.true in
     record {
       rising = omega (arith, e.0, c.loop-c.invariant.0);
@@ -30,12 +30,12 @@ pub loop-c-preserved : goal.loop-c-preserved
 loop-c-preserved c =
     let row = c.args.literals.now in
     let ends = c.args.ends.now in
-    let e = c.list-clause.ensures in (
+    let e = c.list_clause.ensures in (
       sym (ap (start_of ends) (add-one c.loop-c.c)),
       e.headed,
       λ p h w. e.linked p h (omega (arith, w, c.loop-c.auto.lasts, c.clear.auto.lasts)),
       e.paired,
-      spanned_more ends c.loop-c.places c.list-clause.new.places c.loop-c.c c.loop-c.from (get_or ends c.loop-c.c 0) c.loop-c.invariant.0 refl
+      spanned_more ends c.loop-c.places c.list_clause.new.places c.loop-c.c c.loop-c.from (get_or ends c.loop-c.c 0) c.loop-c.invariant.0 refl
           (λ d p h g. let b = ends_before row 0 ends d c.loop-c.c c.requires.ended h (omega (arith, c.loop-c-test.true)) in omega (arith, b, g, c.loop-c.invariant.0))
           c.loop-c.invariant.4 e.spanned e.kept,
     )

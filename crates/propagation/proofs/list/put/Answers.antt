@@ -4,6 +4,6 @@ use Rattle.propagation.proofs.list.put.Goals as goal
 
 pub returns-then-k-lasts : goal.returns-then-k-lasts
 returns-then-k-lasts c = record {
-  was-there = sym (get_or_past c.args.lasts.now c.args.k 0 c.if-k-lasts.true);
+  was_there = sym (get_or_past c.args.lasts.now c.args.k 0 c.if-k-lasts.true);
   is_there = sym (set_past c.args.lasts.now c.args.k (c.args.p + 1) c.if-k-lasts.true);
 }

@@ -10,7 +10,7 @@ pub make-requires : goal.make-requires
 make-requires c =
     let v = c.args.values.now in
     let f : SFits w16 c.in-Lone.literal = search rules in
-    let e = c.in-Lone.ensures.is-the-clauses-state in
+    let e = c.in-Lone.ensures.is_the_clauses_state in
     let o = unit_place v c.in-Lone.literal _ (sym e) in
     let i = open_inside v (place c.in-Lone.literal) o in
     let p = open_some v (length v) (place c.in-Lone.literal) o i in
@@ -19,7 +19,7 @@ make-requires c =
 pub returns-in-Lone : goal.returns-in-Lone
 returns-in-Lone c =
     let f : SFits w16 c.in-Lone.literal = search rules in
-    let e = c.in-Lone.ensures.is-the-clauses-state in
+    let e = c.in-Lone.ensures.is_the_clauses_state in
     let m = simp to_z-of_z at c.make.ensures.values in
     let t = simp to_z-of_z at c.make.ensures.trail in
     record { presses = forces c.in-Lone.literal refl (sym e) m t; space = c.make.ensures.space }

@@ -13,10 +13,10 @@ returns-in-Other c =
     let row = c.args.literals.now in
     let l = get_or row c.loop-i.i (pos 0) in
     let f : SFits w16 l = search rules in
-    let e1 = simp to_z-of_z at c.join-state.ensures.joins-the-literal in
-    let e2 = simp to_z-of_z at c.value-of.ensures.is-the-literals-value in
+    let e1 = simp to_z-of_z at c.join-state.ensures.joins_the_literal in
+    let e2 = simp to_z-of_z at c.value_of.ensures.is_the_literals_value in
     let h = scan_more v row c.loop-i.i c.args.to c.loop-i.state _ c.loop-i-test.true (omega (arith, c.requires, c.loop-i-test.true)) c.loop-i.invariant in
-    record { is-the-clauses-state = ap (λ (x : State). combined x (state_of v (take (c.args.to - (c.loop-i.i + 1)) (drop (c.loop-i.i + 1) row)))) (sym c.in-Other.is ∙ e1 ∙ ap (λ o. joined o l c.loop-i.state) e2) ∙ h }
+    record { is_the_clauses_state = ap (λ (x : State). combined x (state_of v (take (c.args.to - (c.loop-i.i + 1)) (drop (c.loop-i.i + 1) row)))) (sym c.in-Other.is ∙ e1 ∙ ap (λ o. joined o l c.loop-i.state) e2) ∙ h }
 
 pub loop-i-preserved : goal.loop-i-preserved
 loop-i-preserved c =
@@ -24,7 +24,7 @@ loop-i-preserved c =
     let row = c.args.literals.now in
     let l = get_or row c.loop-i.i (pos 0) in
     let f : SFits w16 l = search rules in
-    let e1 = simp to_z-of_z at c.join-state.ensures.joins-the-literal in
-    let e2 = simp to_z-of_z at c.value-of.ensures.is-the-literals-value in
+    let e1 = simp to_z-of_z at c.join-state.ensures.joins_the_literal in
+    let e2 = simp to_z-of_z at c.value_of.ensures.is_the_literals_value in
     let h = scan_more v row c.loop-i.i c.args.to c.loop-i.state _ c.loop-i-test.true (omega (arith, c.requires, c.loop-i-test.true)) c.loop-i.invariant in
     ap (λ (x : State). combined x (state_of v (take (c.args.to - (c.loop-i.i + 1)) (drop (c.loop-i.i + 1) row)))) (e1 ∙ ap (λ o. joined o l c.loop-i.state) e2) ∙ h

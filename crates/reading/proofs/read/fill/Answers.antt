@@ -11,21 +11,21 @@ use Rattle.reading.proofs.read.fill.Goals as goal
 pub loop-size-init : goal.loop-size-init
 loop-size-init c = (omega arith, (suc (length c.args.bytes.now), omega arith, ap (read_from (suc (length c.args.bytes.now)) c.args.bytes.now 0) (sym c.requires)))
 
-pub returns-in-err-size : goal.returns-in-err-size
-returns-in-err-size c =
+pub returns-in_err-size : goal.returns-in_err-size
+returns-in_err-size c =
     let i = c.loop-size.invariant.1 in
-    let p = err_from_is_err_and c.from-residual.result c.from-residual.ensures.1 in
-    rw (p.1, p.2) (record { holds-what-the-bytes-say = loop_bad c.args.bytes.now _ c.loop-size.at (draft_of c.loop-size.draft) (take_rest c.args.bytes.now c.loop-size.at) _ i.0 _ i.1 i.2 c.in-err-size.ensures.goes-one-command-on })
+    let p = err_from_is_err_and c.from_residual.result c.from_residual.ensures.1 in
+    rw (p.1, p.2) (record { holds_what_the_bytes_say = loop_bad c.args.bytes.now _ c.loop-size.at (draft_of c.loop-size.draft) (take_rest c.args.bytes.now c.loop-size.at) _ i.0 _ i.1 i.2 c.in_err-size.ensures.goes_one_command_on })
 
 pub loop-size-preserved : goal.loop-size-preserved
 loop-size-preserved c =
     let i = c.loop-size.invariant in
-    let h = MatchOption-at_some _ _ _ c.in-Some.is c.in-ok-size.ensures.stays-within-the-bytes in
+    let h = MatchOption-at_some _ _ _ c.in-Some.is c.in_ok-size.ensures.stays_within_the_bytes in
     loop_more c.args.bytes.now _ c.loop-size.at (draft_of c.loop-size.draft) (take_rest c.args.bytes.now c.loop-size.at) _ i.1.0 _ _ i.0 i.1.1 i.1.2 h.0 h.1
-    (stepped_some _ _ _ _ _ c.in-Some.is c.in-ok-size.ensures.goes-one-command-on)
+    (stepped_some _ _ _ _ _ c.in-Some.is c.in_ok-size.ensures.goes_one_command_on)
 
 pub returns-in-None : goal.returns-in-None
 returns-in-None c =
     let i = c.loop-size.invariant.1 in
-    let h = stepped_none _ _ _ _ c.in-None.is c.in-ok-size.ensures.goes-one-command-on in
-    record { holds-what-the-bytes-say = loop_done c.args.bytes.now _ c.loop-size.at (draft_of c.loop-size.draft) (take_rest c.args.bytes.now c.loop-size.at) _ i.0 i.1 i.2 h.0 ∙ ap Ok (sym h.1) }
+    let h = stepped_none _ _ _ _ c.in-None.is c.in_ok-size.ensures.goes_one_command_on in
+    record { holds_what_the_bytes_say = loop_done c.args.bytes.now _ c.loop-size.at (draft_of c.loop-size.draft) (take_rest c.args.bytes.now c.loop-size.at) _ i.0 i.1 i.2 h.0 ∙ ap Ok (sym h.1) }

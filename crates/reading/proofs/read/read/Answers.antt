@@ -4,27 +4,27 @@ use Rattle.std.proofs.lemmas.Result.{err_from_is_err_and}
 use Rattle.reading.proofs.Ruled.{agree}
 use Rattle.reading.proofs.read.read.Goals as goal
 
-pub returns-in-err-spelled-card : goal.returns-in-err-spelled-card
-returns-in-err-spelled-card c =
-    let p = err_from_is_err_and c.from-residual.result c.from-residual.ensures.1 in
-    let h = c.in-err-spelled-card.ensures in
+pub returns-in_err-spelled_card : goal.returns-in_err-spelled_card
+returns-in_err-spelled_card c =
+    let p = err_from_is_err_and c.from_residual.result c.from_residual.ensures.1 in
+    let h = c.in_err-spelled_card.ensures in
     rw (p.1, p.2) (record {
-      accepted-bytes-spell-the-card-held = tt;
-      a-refusal-names-the-first-broken-rule-and-its-place = h.a-refusal-names-the-first-broken-rule-and-its-place;
-      want-of-memory-refuses-only-bytes-that-spell-a-card = h.want-of-memory-refuses-only-bytes-that-spell-a-card;
-      a-refusal-keeps-the-lent-card = refl;
-      is-what-the-definition-reads = h.is-what-the-definition-reads;
-      definition-and-rules-agree = agree;
+      accepted_bytes_spell_the_card_held = tt;
+      a_refusal_names_the_first_broken_rule_and_its_place = h.a_refusal_names_the_first_broken_rule_and_its_place;
+      want_of_memory_refuses_only_bytes_that_spell_a_card = h.want_of_memory_refuses_only_bytes_that_spell_a_card;
+      a_refusal_keeps_the_lent_card = refl;
+      is_what_the_definition_reads = h.is_what_the_definition_reads;
+      definition_and_rules_agree = agree;
     })
 
 pub returns : goal.returns
 returns c =
-    let h = c.in-ok-spelled-card.ensures in
+    let h = c.in_ok-spelled_card.ensures in
     record {
-      accepted-bytes-spell-the-card-held = h.accepted-bytes-spell-the-card;
-      a-refusal-names-the-first-broken-rule-and-its-place = tt;
-      want-of-memory-refuses-only-bytes-that-spell-a-card = tt;
-      a-refusal-keeps-the-lent-card = tt;
-      is-what-the-definition-reads = h.is-what-the-definition-reads;
-      definition-and-rules-agree = agree;
+      accepted_bytes_spell_the_card_held = h.accepted_bytes_spell_the_card;
+      a_refusal_names_the_first_broken_rule_and_its_place = tt;
+      want_of_memory_refuses_only_bytes_that_spell_a_card = tt;
+      a_refusal_keeps_the_lent_card = tt;
+      is_what_the_definition_reads = h.is_what_the_definition_reads;
+      definition_and_rules_agree = agree;
     }

@@ -7,44 +7,44 @@ use Rattle.reading.specs.Reading.{accepted}
 use Rattle.reading.proofs.Steps.{kept, step_undecoded, step_broken, step_accepted, accepted_trailing, accepted_end, accepted_more}
 use Rattle.reading.proofs.read.step.Goals as goal
 
-pub returns-in-err-command : goal.returns-in-err-command
-returns-in-err-command c =
-    let p = err_from_is_err_and c.from-residual.result c.from-residual.ensures.1 in
-    rw (p.1, p.2) (record { goes-one-command-on = step_undecoded (draft_of c.args.draft.now) c.args.rest.now c.args.at _ c.in-err-command.ensures.is-the-command-or-its-fault; stays-within-the-bytes = tt })
+pub returns-in_err-command : goal.returns-in_err-command
+returns-in_err-command c =
+    let p = err_from_is_err_and c.from_residual.result c.from_residual.ensures.1 in
+    rw (p.1, p.2) (record { goes_one_command_on = step_undecoded (draft_of c.args.draft.now) c.args.rest.now c.args.at _ c.in_err-command.ensures.is_the_command_or_its_fault; stays_within_the_bytes = tt })
 
-pub returns-in-err-judge : goal.returns-in-err-judge
-returns-in-err-judge c =
-    let p = err_from_is_err_and c.from-residual-in-err-judge.result c.from-residual-in-err-judge.ensures.1 in
-    rw (p.1, p.2) (record { goes-one-command-on = step_broken (draft_of c.args.draft.now) c.args.rest.now c.args.at _ _ c.in-ok-command.ensures.is-the-command-or-its-fault c.in-err-judge.ensures.refuses-the-first-broken-rule; stays-within-the-bytes = tt })
+pub returns-in_err-judge : goal.returns-in_err-judge
+returns-in_err-judge c =
+    let p = err_from_is_err_and c.from_residual-in_err-judge.result c.from_residual-in_err-judge.ensures.1 in
+    rw (p.1, p.2) (record { goes_one_command_on = step_broken (draft_of c.args.draft.now) c.args.rest.now c.args.at _ _ c.in_ok-command.ensures.is_the_command_or_its_fault c.in_err-judge.ensures.refuses_the_first_broken_rule; stays_within_the_bytes = tt })
 
 pub add-requires : goal.add-requires
 add-requires c =
-    let k = kept (draft_of c.args.draft.now) c.in-ok-command.command c.args.at c.in-ok-judge.ensures.refuses-the-first-broken-rule in
+    let k = kept (draft_of c.args.draft.now) c.in_ok-command.command c.args.at c.in_ok-judge.ensures.refuses_the_first_broken_rule in
     record { not_late = k.not_late; not_overfull = k.not_overfull }
 
 pub returns-then-rest-gt1 : goal.returns-then-rest-gt1
 returns-then-rest-gt1 c =
     record {
-      goes-one-command-on = step_accepted (draft_of c.args.draft.now) c.args.rest.now c.args.at _ c.in-ok-command.ensures.is-the-command-or-its-fault c.in-ok-judge.ensures.refuses-the-first-broken-rule
-          ∙ accepted_trailing (draft_of c.args.draft.now) c.in-ok-command.command c.args.rest.now c.args.at c.in-End.is c.if-rest-gt1.true;
-      stays-within-the-bytes = tt;
+      goes_one_command_on = step_accepted (draft_of c.args.draft.now) c.args.rest.now c.args.at _ c.in_ok-command.ensures.is_the_command_or_its_fault c.in_ok-judge.ensures.refuses_the_first_broken_rule
+          ∙ accepted_trailing (draft_of c.args.draft.now) c.in_ok-command.command c.args.rest.now c.args.at c.in-End.is c.if-rest-gt1.true;
+      stays_within_the_bytes = tt;
     }
 
 pub returns-in-End : goal.returns-in-End
 returns-in-End c =
     record {
-      goes-one-command-on = (
-        step_accepted (draft_of c.args.draft.now) c.args.rest.now c.args.at _ c.in-ok-command.ensures.is-the-command-or-its-fault c.in-ok-judge.ensures.refuses-the-first-broken-rule
-            ∙ accepted_end (draft_of c.args.draft.now) c.in-ok-command.command c.args.rest.now c.args.at c.in-End.is c.if-rest-gt1.false,
+      goes_one_command_on = (
+        step_accepted (draft_of c.args.draft.now) c.args.rest.now c.args.at _ c.in_ok-command.ensures.is_the_command_or_its_fault c.in_ok-judge.ensures.refuses_the_first_broken_rule
+            ∙ accepted_end (draft_of c.args.draft.now) c.in_ok-command.command c.args.rest.now c.args.at c.in-End.is c.if-rest-gt1.false,
         refl,
       );
-      stays-within-the-bytes = tt;
+      stays_within_the_bytes = tt;
     }
 
 pub returns : goal.returns
 returns c =
     record {
-      goes-one-command-on = step_accepted (draft_of c.args.draft.now) c.args.rest.now c.args.at _ c.in-ok-command.ensures.is-the-command-or-its-fault c.in-ok-judge.ensures.refuses-the-first-broken-rule
-          ∙ accepted_more (draft_of c.args.draft.now) c.in-ok-command.command c.args.rest.now c.args.at _ _ c.in-default.not-End c.add.ensures.holds-one-declaration-more c.size.ensures.is-one-byte-and-two-for-each-operand;
-      stays-within-the-bytes = search rules;
+      goes_one_command_on = step_accepted (draft_of c.args.draft.now) c.args.rest.now c.args.at _ c.in_ok-command.ensures.is_the_command_or_its_fault c.in_ok-judge.ensures.refuses_the_first_broken_rule
+          ∙ accepted_more (draft_of c.args.draft.now) c.in_ok-command.command c.args.rest.now c.args.at _ _ c.in_default.not-End c.add.ensures.holds_one_declaration_more c.size.ensures.is_one_byte_and_two_for_each_operand;
+      stays_within_the_bytes = search rules;
     }

@@ -9,8 +9,8 @@ use Rattle.reading.proofs.write.write.Goals as goal
 pub returns : goal.returns
 returns c =
     let n = netlist_of c.args.card.now in
-    let law = c.inputs.ensures.every-card-keeps-the-rules in
-    let w = written_in_parts n _ _ _ _ _ _ _ _ c.new-bytes.ensures.items c.in-ok-write-inputs.ensures.appends-an-input-command-for-each
-    c.in-ok-write-gates.ensures.appends-the-gates c.in-ok-write-outputs.ensures.appends-the-outputs c.in-ok-push.ensures.items
-    c.inputs.ensures.counts-the-inputs c.gates.ensures.are-the-gates c.outputs.ensures.are-the-outputs in
-    record { is-the-canonical-writing = w; reads-back-to-the-card = ap reading w ∙ written_reads n law; spells-the-card = subst (λ x. Accepted x n) (sym w) (written_accepted n law) }
+    let law = c.inputs.ensures.every_card_keeps_the_rules in
+    let w = written_in_parts n _ _ _ _ _ _ _ _ c.new-bytes.ensures.items c.in_ok-write_inputs.ensures.appends_an_input_command_for_each
+    c.in_ok-write_gates.ensures.appends_the_gates c.in_ok-write_outputs.ensures.appends_the_outputs c.in_ok-push.ensures.items
+    c.inputs.ensures.counts_the_inputs c.gates.ensures.are_the_gates c.outputs.ensures.are_the_outputs in
+    record { is_the_canonical_writing = w; reads_back_to_the_card = ap reading w ∙ written_reads n law; spells_the_card = subst (λ x. Accepted x n) (sym w) (written_accepted n law) }

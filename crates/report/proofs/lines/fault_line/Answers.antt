@@ -8,4 +8,4 @@ use Rattle.report.proofs.lines.fault_line.Goals as goal
 pub returns-in-Detected : goal.returns-in-Detected
 returns-in-Detected c =
     let p = filled_of c.args.page.now in
-    record { puts-the-line-unless-detected = sym (ap (λ m. putting (ended (fault_rows c.args.number m)) p) c.in-Detected.is ∙ put_none p); holds-the-lent-buffer = refl }
+    record { puts_the_line_unless_detected = sym (ap (λ m. putting (ended (fault_rows c.args.number m)) p) c.in-Detected.is ∙ put_none p); holds_the_lent_buffer = refl }

@@ -5,6 +5,6 @@ use Rattle.report.proofs.lines.marked.Goals as goal
 pub returns : goal.returns
 returns c =
     let p = filled_of c.args.page.now in
-    let one = put_then _ _ p _ _ c.put.ensures.puts-the-bytes c.number.ensures.puts-its-digits in
-    let two = put_then _ _ p _ _ (put_then _ _ p _ _ one c.byte.ensures.puts-the-byte) c.put-2.ensures.puts-the-bytes in
-    record { puts-the-line = put_then _ _ p _ _ two c.byte-2.ensures.puts-the-byte; holds-the-lent-buffer = cc }
+    let one = put_then _ _ p _ _ c.put.ensures.puts_the_bytes c.number.ensures.puts_its_digits in
+    let two = put_then _ _ p _ _ (put_then _ _ p _ _ one c.byte.ensures.puts_the_byte) c.put-2.ensures.puts_the_bytes in
+    record { puts_the_line = put_then _ _ p _ _ two c.byte-2.ensures.puts_the_byte; holds_the_lent_buffer = cc }

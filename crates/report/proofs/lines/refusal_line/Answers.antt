@@ -7,6 +7,6 @@ pub returns : goal.returns
 unfolding refusal_text
 returns c =
     let p = filled_of c.args.page.now in
-    let one = put_then _ _ p _ _ c.put.ensures.puts-the-bytes c.number.ensures.puts-its-digits in
-    let two = put_then _ _ p _ _ (put_then _ _ p _ _ one c.put-2.ensures.puts-the-bytes) c.number-2.ensures.puts-its-digits in
-    record { puts-the-refusal = put_then _ _ p _ _ two c.byte.ensures.puts-the-byte; holds-the-lent-buffer = cc }
+    let one = put_then _ _ p _ _ c.put.ensures.puts_the_bytes c.number.ensures.puts_its_digits in
+    let two = put_then _ _ p _ _ (put_then _ _ p _ _ one c.put-2.ensures.puts_the_bytes) c.number-2.ensures.puts_its_digits in
+    record { puts_the_refusal = put_then _ _ p _ _ two c.byte.ensures.puts_the_byte; holds_the_lent_buffer = cc }

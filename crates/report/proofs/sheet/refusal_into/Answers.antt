@@ -11,12 +11,12 @@ returns c =
     let text = refusal_text c.args.number c.args.offset in
     let last = c.finish.new.self.0 in
     let h = c.finish.ensures in
-    let put = c.refusal-line.ensures.puts-the-refusal ∙ ap (putting text) c.new-page.ensures.is-fresh in
-    let end = finished text c.args.buffer.now last c.finish.result (filled_of c.refusal-line.new.page) put h.ended-with-a-length-exactly-if-nothing-was-cut h.answers-the-length h.leaves-the-buffer in
+    let put = c.refusal_line.ensures.puts_the_refusal ∙ ap (putting text) c.new-page.ensures.is_fresh in
+    let end = finished text c.args.buffer.now last c.finish.result (filled_of c.refusal_line.new.page) put h.ended_with_a_length_exactly_if_nothing_was_cut h.answers_the_length h.leaves_the_buffer in
     record {
-      answered-exactly-if-the-line-fits = end.fits;
-      answers-its-length = end.long;
-      writes-the-line-as-far-as-it-fits = via last end.left (search rules);
-      leaves-the-bytes-behind-it = λ y. via last (end.behind y) (search rules);
-      the-line-has-at-most-41-bytes = refusal_fits c.args.number c.args.offset (omega arith) (omega arith);
+      answered_exactly_if_the_line_fits = end.fits;
+      answers_its_length = end.long;
+      writes_the_line_as_far_as_it_fits = via last end.left (search rules);
+      leaves_the_bytes_behind_it = λ y. via last (end.behind y) (search rules);
+      the_line_has_at_most_41_bytes = refusal_fits c.args.number c.args.offset (omega arith) (omega arith);
     }

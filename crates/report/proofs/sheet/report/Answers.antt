@@ -18,19 +18,19 @@ returns c =
     let p = filled_of c.args.page.now in
     let card = card_held c.args.job.now in
     let v = held c.args.job.now in
-    let stands = c.marks.ensures.the-law-of-jobs-holds in
-    let law : Lawful card = subst Lawful c.card.ensures.is-the-jobs-card (search rules) in
-    let counts = c.counts.ensures.counts-the-faults in
-    let head = c.head-line.ensures.puts-the-head
-    ∙ ap (λ (l : List ℕ). putting (ended (l ∷ [])) p) (same_head _ _ _ _ _ _ _ _ (ap length c.marks.ensures.are-the-marks) (ap (λ (k : Counts). k.detected) counts) (ap (λ (k : Counts). k.untestable) counts) (ap (λ (k : Counts). k.«open») counts)) in
-    let vectors = c.vector-lines.ensures.puts-a-line-for-each-vector
-    ∙ ap₂ (λ (n : Netlist) (vs : List Cells). putting (ended (numbered (vector_rows n) 0 vs)) (filled_of c.head-line.new.page)) c.card.ensures.is-the-jobs-card c.vectors.ensures.are-the-vectors in
-    let faults = c.fault-lines.ensures.puts-a-line-for-each-fault-not-detected
-    ∙ ap (λ (ms : List Mark). putting (ended (numbered fault_rows 0 ms)) (filled_of c.vector-lines.new.page)) c.marks-2.ensures.are-the-marks in
+    let stands = c.marks.ensures.the_law_of_jobs_holds in
+    let law : Lawful card = subst Lawful c.card.ensures.is_the_jobs_card (search rules) in
+    let counts = c.counts.ensures.counts_the_faults in
+    let head = c.head_line.ensures.puts_the_head
+    ∙ ap (λ (l : List ℕ). putting (ended (l ∷ [])) p) (same_head _ _ _ _ _ _ _ _ (ap length c.marks.ensures.are_the_marks) (ap (λ (k : Counts). k.detected) counts) (ap (λ (k : Counts). k.untestable) counts) (ap (λ (k : Counts). k.«open») counts)) in
+    let vectors = c.vector_lines.ensures.puts_a_line_for_each_vector
+    ∙ ap₂ (λ (n : Netlist) (vs : List Cells). putting (ended (numbered (vector_rows n) 0 vs)) (filled_of c.head_line.new.page)) c.card.ensures.is_the_jobs_card c.vectors.ensures.are_the_vectors in
+    let faults = c.fault_lines.ensures.puts_a_line_for_each_fault_not_detected
+    ∙ ap (λ (ms : List Mark). putting (ended (numbered fault_rows 0 ms)) (filled_of c.vector_lines.new.page)) c.marks-2.ensures.are_the_marks in
     record {
-      puts-the-sheet = put_then _ _ p _ _ (put_then _ _ p _ _ head vectors) faults ∙ ap (λ (t : List ℕ). putting t p) (sheet_parts card v.marks v.vectors);
-      the-sheet-tells-what-the-job-holds = tells card v law stands;
-      the-sheet-tells-the-truth = tells_the_truth card v law stands;
-      with-a-detected-fault-for-each-vector-it-has-at-most-65536-bytes = λ own. sheet_fits card v law (few_faults card v law stands) (few_vectors card v stands) own;
-      holds-the-lent-buffer = cc;
+      puts_the_sheet = put_then _ _ p _ _ (put_then _ _ p _ _ head vectors) faults ∙ ap (λ (t : List ℕ). putting t p) (sheet_parts card v.marks v.vectors);
+      the_sheet_tells_what_the_job_holds = tells card v law stands;
+      the_sheet_tells_the_truth = tells_the_truth card v law stands;
+      with_a_detected_fault_for_each_vector_it_has_at_most_65536_bytes = λ own. sheet_fits card v law (few_faults card v law stands) (few_vectors card v stands) own;
+      holds_the_lent_buffer = cc;
     }

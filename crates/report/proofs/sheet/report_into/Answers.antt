@@ -12,15 +12,15 @@ returns c =
     let text = sheet_of (card_held c.args.job.now) (held c.args.job.now) in
     let last = c.finish.new.self.0 in
     let h = c.finish.ensures in
-    let put = c.report.ensures.puts-the-sheet ∙ ap (putting text) c.new-page.ensures.is-fresh in
-    let end = finished text c.args.buffer.now last c.finish.result (filled_of c.report.new.page) put h.ended-with-a-length-exactly-if-nothing-was-cut h.answers-the-length h.leaves-the-buffer in
+    let put = c.report.ensures.puts_the_sheet ∙ ap (putting text) c.new-page.ensures.is_fresh in
+    let end = finished text c.args.buffer.now last c.finish.result (filled_of c.report.new.page) put h.ended_with_a_length_exactly_if_nothing_was_cut h.answers_the_length h.leaves_the_buffer in
     record {
-      answered-exactly-if-the-sheet-fits = end.fits;
-      answers-its-length = end.long;
-      writes-the-sheet-as-far-as-it-fits = via last end.left (search rules);
-      leaves-the-bytes-behind-it = λ y. via last (end.behind y) (search rules);
-      the-sheet-tells-what-the-job-holds = c.report.ensures.the-sheet-tells-what-the-job-holds;
-      the-sheet-tells-the-truth = c.report.ensures.the-sheet-tells-the-truth;
-      with-a-detected-fault-for-each-vector-it-fits-65536-bytes =
-          λ m room. end.fits ∙ le-leb (length text) (length c.args.buffer.now) (omega (arith, c.report.ensures.with-a-detected-fault-for-each-vector-it-has-at-most-65536-bytes m, room));
+      answered_exactly_if_the_sheet_fits = end.fits;
+      answers_its_length = end.long;
+      writes_the_sheet_as_far_as_it_fits = via last end.left (search rules);
+      leaves_the_bytes_behind_it = λ y. via last (end.behind y) (search rules);
+      the_sheet_tells_what_the_job_holds = c.report.ensures.the_sheet_tells_what_the_job_holds;
+      the_sheet_tells_the_truth = c.report.ensures.the_sheet_tells_the_truth;
+      with_a_detected_fault_for_each_vector_it_fits_65536_bytes =
+          λ m room. end.fits ∙ le-leb (length text) (length c.args.buffer.now) (omega (arith, c.report.ensures.with_a_detected_fault_for_each_vector_it_has_at_most_65536_bytes m, room));
     }

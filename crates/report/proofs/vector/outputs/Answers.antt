@@ -14,12 +14,12 @@ returns-in-Ok c =
     let v = cells_of c.args.vector.now in
     let h = c.in-Ok.ensures in
     let n = c.in-Ok.count in
-    let long : length (characters card v) ≡ n = length_characters card v ∙ sym h.answers-how-many-or-names-the-refusal in
+    let long : length (characters card v) ≡ n = length_characters card v ∙ sym h.answers_how_many_or_names_the_refusal in
     let z : n - 0 ≡ n = omega arith in
-    let shown : take (n - 0) c.expected-outputs.new.out ≡ characters card v =
-    ap (λ (k : ℕ). take k c.expected-outputs.new.out) z ∙ ap (take n) h.writes-the-characters-or-nothing ∙ take_at (characters card v) _ n long in
+    let shown : take (n - 0) c.expected_outputs.new.out ≡ characters card v =
+    ap (λ (k : ℕ). take k c.expected_outputs.new.out) z ∙ ap (take n) h.writes_the_characters_or_nothing ∙ take_at (characters card v) _ n long in
     record {
-      puts-what-the-outputs-show = c.put.ensures.puts-the-bytes ∙ ap (λ t. putting t (filled_of c.args.page.now)) shown;
+      puts_what_the_outputs_show = c.put.ensures.puts_the_bytes ∙ ap (λ t. putting t (filled_of c.args.page.now)) shown;
       a_bit_shown_is_what_every_filling_makes = h.a_bit_shown_is_what_every_filling_makes;
-      holds-the-lent-buffer = c.put.ensures.holds-the-lent-buffer;
+      holds_the_lent_buffer = c.put.ensures.holds_the_lent_buffer;
     }

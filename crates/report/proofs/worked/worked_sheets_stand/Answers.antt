@@ -5,4 +5,4 @@ use Rattle.report.proofs.worked.worked_sheets_stand.Goals as goal
 
 pub returns : goal.returns
 unfolding digits sheet_text refusal_text
-returns c = record { the-sheet-of-card-b = refl; the-sheet-of-a-bad-card = refl }
+returns c = record { the_sheet_of_card_b = refl; the_sheet_of_a_bad_card = refl }

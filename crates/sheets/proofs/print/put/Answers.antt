@@ -8,5 +8,5 @@ use Rattle.sheets.proofs.print.put.Goals as goal
 
 pub unreachable-requires : goal.unreachable-requires
 unreachable-requires c =
-    let worked = subst Worked c.in-Ok.is c.requires.of-a-worked-job in
-    false≢true (c.in-None.ensures.with-a-detected-fault-for-each-vector-it-fits-65536-bytes (modest c.in-Ok.job worked) c.requires.room)
+    let worked = subst Worked c.in-Ok.is c.requires.of_a_worked_job in
+    false≢true (c.in-None.ensures.with_a_detected_fault_for_each_vector_it_fits_65536_bytes (modest c.in-Ok.job worked) c.requires.room)

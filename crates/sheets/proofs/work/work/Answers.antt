@@ -13,9 +13,9 @@ use Rattle.sheets.proofs.work.work.Goals as goal
 marked : (j : Job) (ms : List Mark) → ms ≡ (held j).marks → length ms ≡ fault_count (card_held j)
 marked j ms e = ap length e ∙ sym j.table.marks.ok.0 ∙ j.table.a_mark_for_each_fault
 
-pub work-on-requires : goal.work-on-requires
-work-on-requires g c =
-    let all = marked c.args.job.now _ c.marks-faults.ensures.are-the-marks in
+pub work_on-requires : goal.work_on-requires
+work_on-requires g c =
+    let all = marked c.args.job.now _ c.marks-faults.ensures.are_the_marks in
     let same : fault_count (card_held c.loop-fault.job) ≡ fault_count (card_held c.args.job.now) = ap fault_count c.loop-fault.invariant.0 in
     record {
       a_fault = omega (arith, c.loop-fault-test.true, all, same);
@@ -24,15 +24,15 @@ work-on-requires g c =
 
 pub loop-fault-preserved : goal.loop-fault-preserved
 loop-fault-preserved g c =
-    let worked : held c.work-on.new.job ≡ working (card_held c.args.job.now) (held c.loop-fault.job) c.loop-fault.fault =
-    c.work-on.ensures.works-as-defined ∙ ap (λ (k : Netlist). working k (held c.loop-fault.job) c.loop-fault.fault) c.loop-fault.invariant.0 in
-    (c.work-on.ensures.card-stays ∙ c.loop-fault.invariant.0, worked_more (card_held c.args.job.now) c.loop-fault.fault (held c.loop-fault.job) (held c.work-on.new.job) c.loop-fault.invariant.1 worked)
+    let worked : held c.work_on.new.job ≡ working (card_held c.args.job.now) (held c.loop-fault.job) c.loop-fault.fault =
+    c.work_on.ensures.works_as_defined ∙ ap (λ (k : Netlist). working k (held c.loop-fault.job) c.loop-fault.fault) c.loop-fault.invariant.0 in
+    (c.work_on.ensures.card_stays ∙ c.loop-fault.invariant.0, worked_more (card_held c.args.job.now) c.loop-fault.fault (held c.loop-fault.job) (held c.work_on.new.job) c.loop-fault.invariant.1 worked)
 
 pub returns : goal.returns
 returns g c =
-    let all = marked c.args.job.now _ c.marks-faults.ensures.are-the-marks in
+    let all = marked c.args.job.now _ c.marks-faults.ensures.are_the_marks in
     let over : c.loop-fault.fault ≡ fault_count (card_held c.args.job.now) = omega (arith, c.loop-fault-test.false, c.loop-fault.auto.fault-end, all) in
     record {
-      reaches-what-is-defined = worked_all (card_held c.args.job.now) c.loop-fault.fault (held c.loop-fault.job) over c.loop-fault.invariant.1;
-      card-stays = c.loop-fault.invariant.0;
+      reaches_what_is_defined = worked_all (card_held c.args.job.now) c.loop-fault.fault (held c.loop-fault.job) over c.loop-fault.invariant.1;
+      card_stays = c.loop-fault.invariant.0;
     }

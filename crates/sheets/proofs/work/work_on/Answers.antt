@@ -18,17 +18,17 @@ returns-then-listed-vectors c =
     let j : Job = c.args.job.now in
     let took = c.in-Ok.ensures in
     let lt : c.args.fault < length (held j).taken = omega (arith, c.requires.a_fault, j.table.taken.ok.0, j.table.a_flag_for_each_fault) in
-    let e3 = after_close (card_held j) (held j) c.args.fault took.granted-exactly-for-an-open-fault-that-is-not-taken (card_held c.take.new.self) (card_held c.search.new.self) (held c.take.new.self) (held c.search.new.self) (held c.close.new.self) c.in-Ok.ticket.fault _ _ c.search.result c.close.result
-    lt took.the-fault-is-taken-or-nothing-changes took.the-card-stays took.the-ticket-is-for-the-fault
-    c.search.ensures.the-solvers-answer-is-entered-or-a-refusal-changes-neither-job-nor-solver c.search.ensures.the-solver-answered-in-its-own-way
-    c.close.ensures.granted-exactly-for-a-taken-fault c.close.ensures.the-fault-is-closed-or-nothing-changes in
-    let listed = counted _ _ c.vectors-listed.ensures.are-the-vectors in
-    let more = counted _ _ c.vectors.ensures.are-the-vectors in
-    let card = c.close.ensures.the-card-stays ∙ c.search.ensures.the-card-stays ∙ took.the-card-stays in
+    let e3 = after_close (card_held j) (held j) c.args.fault took.granted_exactly_for_an_open_fault_that_is_not_taken (card_held c.take.new.self) (card_held c.search.new.self) (held c.take.new.self) (held c.search.new.self) (held c.close.new.self) c.in-Ok.ticket.fault _ _ c.search.result c.close.result
+    lt took.the_fault_is_taken_or_nothing_changes took.the_card_stays took.the_ticket_is_for_the_fault
+    c.search.ensures.the_solvers_answer_is_entered_or_a_refusal_changes_neither_job_nor_solver c.search.ensures.the_solver_answered_in_its_own_way
+    c.close.ensures.granted_exactly_for_a_taken_fault c.close.ensures.the_fault_is_closed_or_nothing_changes in
+    let listed = counted _ _ c.vectors-listed.ensures.are_the_vectors in
+    let more = counted _ _ c.vectors.ensures.are_the_vectors in
+    let card = c.close.ensures.the_card_stays ∙ c.search.ensures.the_card_stays ∙ took.the_card_stays in
     record {
-      works-as-defined = swept_worked (card_held j) (held j) c.args.fault took.granted-exactly-for-an-open-fault-that-is-not-taken (held c.close.new.self) e3 _ listed (card_held c.close.new.self) (held c.sweep.new.self) c.sweep.result card
-          (omega (arith, c.if-listed-vectors.true, more)) c.sweep.ensures.answers-how-many-or-that-there-is-no-such-vector c.sweep.ensures.every-caught-fault-is-marked-or-nothing-changes;
-      card-stays = c.sweep.ensures.the-card-stays ∙ card;
+      works_as_defined = swept_worked (card_held j) (held j) c.args.fault took.granted_exactly_for_an_open_fault_that_is_not_taken (held c.close.new.self) e3 _ listed (card_held c.close.new.self) (held c.sweep.new.self) c.sweep.result card
+          (omega (arith, c.if-listed-vectors.true, more)) c.sweep.ensures.answers_how_many_or_that_there_is_no_such_vector c.sweep.ensures.every_caught_fault_is_marked_or_nothing_changes;
+      card_stays = c.sweep.ensures.the_card_stays ∙ card;
     }
 
 pub returns-else-listed-vectors : goal.returns-else-listed-vectors
@@ -36,13 +36,13 @@ returns-else-listed-vectors c =
     let j : Job = c.args.job.now in
     let took = c.in-Ok.ensures in
     let lt : c.args.fault < length (held j).taken = omega (arith, c.requires.a_fault, j.table.taken.ok.0, j.table.a_flag_for_each_fault) in
-    let e3 = after_close (card_held j) (held j) c.args.fault took.granted-exactly-for-an-open-fault-that-is-not-taken (card_held c.take.new.self) (card_held c.search.new.self) (held c.take.new.self) (held c.search.new.self) (held c.close.new.self) c.in-Ok.ticket.fault _ _ c.search.result c.close.result
-    lt took.the-fault-is-taken-or-nothing-changes took.the-card-stays took.the-ticket-is-for-the-fault
-    c.search.ensures.the-solvers-answer-is-entered-or-a-refusal-changes-neither-job-nor-solver c.search.ensures.the-solver-answered-in-its-own-way
-    c.close.ensures.granted-exactly-for-a-taken-fault c.close.ensures.the-fault-is-closed-or-nothing-changes in
-    let listed = counted _ _ c.vectors-listed.ensures.are-the-vectors in
-    let more = counted _ _ c.vectors.ensures.are-the-vectors in
+    let e3 = after_close (card_held j) (held j) c.args.fault took.granted_exactly_for_an_open_fault_that_is_not_taken (card_held c.take.new.self) (card_held c.search.new.self) (held c.take.new.self) (held c.search.new.self) (held c.close.new.self) c.in-Ok.ticket.fault _ _ c.search.result c.close.result
+    lt took.the_fault_is_taken_or_nothing_changes took.the_card_stays took.the_ticket_is_for_the_fault
+    c.search.ensures.the_solvers_answer_is_entered_or_a_refusal_changes_neither_job_nor_solver c.search.ensures.the_solver_answered_in_its_own_way
+    c.close.ensures.granted_exactly_for_a_taken_fault c.close.ensures.the_fault_is_closed_or_nothing_changes in
+    let listed = counted _ _ c.vectors-listed.ensures.are_the_vectors in
+    let more = counted _ _ c.vectors.ensures.are_the_vectors in
     record {
-      works-as-defined = unswept_worked (card_held j) (held j) c.args.fault took.granted-exactly-for-an-open-fault-that-is-not-taken (held c.close.new.self) e3 _ listed (omega (arith, c.if-listed-vectors.false, more));
-      card-stays = c.close.ensures.the-card-stays ∙ c.search.ensures.the-card-stays ∙ took.the-card-stays;
+      works_as_defined = unswept_worked (card_held j) (held j) c.args.fault took.granted_exactly_for_an_open_fault_that_is_not_taken (held c.close.new.self) e3 _ listed (omega (arith, c.if-listed-vectors.false, more));
+      card_stays = c.close.ensures.the_card_stays ∙ c.search.ensures.the_card_stays ∙ took.the_card_stays;
     }

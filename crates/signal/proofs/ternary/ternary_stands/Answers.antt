@@ -5,6 +5,6 @@ use Rattle.signal.proofs.ternary.ternary_stands.Goals as goal
 pub returns : goal.returns
 returns c =
     record {
-      gates-allow-exactly-what-some-choice-makes = ternary_gates_exact;
-      an-answer-is-unknown-exactly-where-both-bits-are-made = unknown_where_both_are_made;
+      gates_allow_exactly_what_some_choice_makes = ternary_gates_exact;
+      an_answer_is_unknown_exactly_where_both_bits_are_made = unknown_where_both_are_made;
     }

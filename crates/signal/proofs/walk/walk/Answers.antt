@@ -17,10 +17,10 @@ loop-i-preserved g c =
     let r = c.inputs-inputs.result in
     let i = c.loop-i.i in
     let items = c.gates-gate-items.result.now in
-    let ordered = ordered_at k r i (netlist_of c.args.card.now).gates items _ c.inputs-inputs.ensures.counts-the-inputs c.gates-gate-items.ensures.are-the-gates c.loop-i-test.true c.inputs-inputs.ensures.every-card-keeps-the-rules.ordered in (
+    let ordered = ordered_at k r i (netlist_of c.args.card.now).gates items _ c.inputs-inputs.ensures.counts_the_inputs c.gates-gate-items.ensures.are_the_gates c.loop-i-test.true c.inputs-inputs.ensures.every_card_keeps_the_rules.ordered in (
       simp length-set c.loop-i.invariant.0,
-      walked_more g.S.Signal.operations c.args.stuck c.loop-i.nets r i items _ c.gate-value.result c.loop-i-test.true (search rules) ordered c.gate-value.ensures.is-the-nets-value ∙ c.loop-i.invariant.1,
-      rest_more c.loop-i.nets c.enter-stuck-input.new.nets r i c.gate-value.result c.loop-i.invariant.2,
+      walked_more g.S.Signal.operations c.args.stuck c.loop-i.nets r i items _ c.gate_value.result c.loop-i-test.true (search rules) ordered c.gate_value.ensures.is_the_nets_value ∙ c.loop-i.invariant.1,
+      rest_more c.loop-i.nets c.enter_stuck_input.new.nets r i c.gate_value.result c.loop-i.invariant.2,
     )
 
 pub returns : goal.returns
@@ -31,14 +31,14 @@ returns g c =
     let items = c.gates-gate-items.result.now in
     let card = netlist_of c.args.card.now in
     let entry = c.args.nets.now in
-    let start = c.enter-stuck-input.new.nets in
+    let start = c.enter_stuck_input.new.nets in
     let exit = c.loop-i.nets in
-    let w = walked_all g.S.Signal.operations c.args.stuck exit start entry k r i card.gates items c.inputs-inputs.ensures.counts-the-inputs c.gates-gate-items.ensures.are-the-gates (omega arith) c.loop-i.invariant.1 c.enter-stuck-input.ensures.inputs-are-entered in
+    let w = walked_all g.S.Signal.operations c.args.stuck exit start entry k r i card.gates items c.inputs-inputs.ensures.counts_the_inputs c.gates-gate-items.ensures.are_the_gates (omega arith) c.loop-i.invariant.1 c.enter_stuck_input.ensures.inputs_are_entered in
     record {
-      array-keeps-its-length = c.loop-i.invariant.0 ∙ c.enter-stuck-input.ensures.array-keeps-its-length;
-      every-net-has-its-value = w;
-      entries-behind-the-nets-stay = rest_all exit start entry (nets card) r i (omega (arith, ap length c.gates-gate-items.ensures.are-the-gates)) c.loop-i.invariant.2 c.enter-stuck-input.ensures.entries-behind-the-inputs-stay;
-      every-net-allows-what-allowed-inputs-make = λ l h. carried g.S.Signal.operations (λ x. g.S.Signal.allows x l) (g.met.S.Signal.sound l h) c.args.stuck card (take k entry) (take (nets card) exit) w;
-      definite-inputs-make-every-net-definite = λ l h. carried g.S.Signal.operations (Only (λ x. g.S.Signal.allows x l)) (g.met.S.Signal.definite l h) c.args.stuck card (take k entry) (take (nets card) exit) w;
-      at-bits-each-function-means-its-name = bits_mean;
+      array_keeps_its_length = c.loop-i.invariant.0 ∙ c.enter_stuck_input.ensures.array_keeps_its_length;
+      every_net_has_its_value = w;
+      entries_behind_the_nets_stay = rest_all exit start entry (nets card) r i (omega (arith, ap length c.gates-gate-items.ensures.are_the_gates)) c.loop-i.invariant.2 c.enter_stuck_input.ensures.entries_behind_the_inputs_stay;
+      every_net_allows_what_allowed_inputs_make = λ l h. carried g.S.Signal.operations (λ x. g.S.Signal.allows x l) (g.met.S.Signal.sound l h) c.args.stuck card (take k entry) (take (nets card) exit) w;
+      definite_inputs_make_every_net_definite = λ l h. carried g.S.Signal.operations (Only (λ x. g.S.Signal.allows x l)) (g.met.S.Signal.definite l h) c.args.stuck card (take k entry) (take (nets card) exit) w;
+      at_bits_each_function_means_its_name = bits_mean;
     }

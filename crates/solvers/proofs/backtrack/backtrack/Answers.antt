@@ -18,21 +18,21 @@ returns-in-None c =
     let cs = clauses_from c.args.literals.now 0 c.args.ends.now in
     let e = c.if-close.ensures in
     let k = loop_grown cs c.args.budget c.args.values.now c.loop-values.values c.loop-values.values c.close.new.values _ _ _ c.loop-values.steps c.loop-values.invariant.0 e.grown in
-    record { answers-as-defined = loop_found cs c.args.budget c.args.values.now c.loop-values.values c.close.new.values _ _ c.loop-values.steps k (e.closed refl) e.whole (sym c.in-None.ensures.is-the-lowest) }
+    record { answers_as_defined = loop_found cs c.args.budget c.args.values.now c.loop-values.values c.close.new.values _ _ c.loop-values.steps k (e.closed refl) e.whole (sym c.in-None.ensures.is_the_lowest) }
 
 pub returns-in-Some : goal.returns-in-Some
 returns-in-Some c =
     let cs = clauses_from c.args.literals.now 0 c.args.ends.now in
     let e = c.if-close.ensures in
     let k = loop_grown cs c.args.budget c.args.values.now c.loop-values.values c.loop-values.values c.close.new.values _ _ _ c.loop-values.steps c.loop-values.invariant.0 e.grown in
-    record { answers-as-defined = loop_weary cs c.args.budget c.args.values.now c.loop-values.values c.close.new.values _ _ c.loop-values.steps c.in-Some.field-0 k (e.closed refl) e.whole (sym c.in-Some.ensures.is-the-lowest) c.if-spent.true }
+    record { answers_as_defined = loop_weary cs c.args.budget c.args.values.now c.loop-values.values c.close.new.values _ _ c.loop-values.steps c.in-Some.field-0 k (e.closed refl) e.whole (sym c.in-Some.ensures.is_the_lowest) c.if-spent.true }
 
 pub decide-requires : goal.decide-requires
 decide-requires c =
     let cs = clauses_from c.args.literals.now 0 c.args.ends.now in
     let e = c.if-close.ensures in
     let k = loop_grown cs c.args.budget c.args.values.now c.loop-values.values c.loop-values.values c.close.new.values _ _ _ c.loop-values.steps c.loop-values.invariant.0 e.grown in
-    let r = decide_ready cs c.args.budget c.args.values.now c.loop-values.values c.close.new.values _ _ c.loop-values.steps c.in-Some.field-0 k (sym c.in-Some.ensures.is-the-lowest) in
+    let r = decide_ready cs c.args.budget c.args.values.now c.loop-values.values c.close.new.values _ _ c.loop-values.steps c.in-Some.field-0 k (sym c.in-Some.ensures.is_the_lowest) in
     let lt = length-take c.close.new.trail.len c.close.new.trail.entries.now in
     let lc = length-take c.loop-values.decisions.len c.loop-values.decisions.entries.now in
     record {
@@ -47,23 +47,23 @@ returns-in-None-pop c =
     let cs = clauses_from c.args.literals.now 0 c.args.ends.now in
     let e = c.if-close.ensures in
     let k = loop_grown cs c.args.budget c.args.values.now c.loop-values.values c.loop-values.values c.close.new.values _ _ _ c.loop-values.steps c.loop-values.invariant.0 e.grown in
-    let z = false-ltb 0 c.loop-values.decisions.len c.in-None-pop.ensures.has-one-unless-empty in
+    let z = false-ltb 0 c.loop-values.decisions.len c.in-None-pop.ensures.has_one_unless_empty in
     let n : c.loop-values.decisions.len ≡ 0 = omega (arith, z) in
-    record { answers-as-defined = loop_empty cs c.args.budget c.args.values.now c.loop-values.values c.close.new.values _ _ c.loop-values.steps k (ap (λ m. take m c.loop-values.decisions.entries.now) n) e.whole }
+    record { answers_as_defined = loop_empty cs c.args.budget c.args.values.now c.loop-values.values c.close.new.values _ _ c.loop-values.steps k (ap (λ m. take m c.loop-values.decisions.entries.now) n) e.whole }
 
 pub returns-in-Some-pop : goal.returns-in-Some-pop
 returns-in-Some-pop c =
     let cs = clauses_from c.args.literals.now 0 c.args.ends.now in
     let e = c.if-close.ensures in
     let k = loop_grown cs c.args.budget c.args.values.now c.loop-values.values c.loop-values.values c.close.new.values _ _ _ c.loop-values.steps c.loop-values.invariant.0 e.grown in
-    record { answers-as-defined = loop_tired cs c.args.budget c.args.values.now c.loop-values.values c.close.new.values _ _ _ c.in-Some-pop.field-0 c.loop-values.steps k e.whole c.in-Some-pop.ensures.takes-the-latest c.if-spent-2.true }
+    record { answers_as_defined = loop_tired cs c.args.budget c.args.values.now c.loop-values.values c.close.new.values _ _ _ c.in-Some-pop.field-0 c.loop-values.steps k e.whole c.in-Some-pop.ensures.takes_the_latest c.if-spent-2.true }
 
 pub turn-requires : goal.turn-requires
 turn-requires c =
     let cs = clauses_from c.args.literals.now 0 c.args.ends.now in
     let e = c.if-close.ensures in
     let k = loop_grown cs c.args.budget c.args.values.now c.loop-values.values c.loop-values.values c.close.new.values _ _ _ c.loop-values.steps c.loop-values.invariant.0 e.grown in
-    let r = turn_ready cs c.args.budget c.args.values.now c.loop-values.values c.close.new.values _ _ _ c.in-Some-pop.field-0 c.loop-values.steps k c.in-Some-pop.ensures.takes-the-latest in
+    let r = turn_ready cs c.args.budget c.args.values.now c.loop-values.values c.close.new.values _ _ _ c.in-Some-pop.field-0 c.loop-values.steps k c.in-Some-pop.ensures.takes_the_latest in
     let lt = length-take c.close.new.trail.len c.close.new.trail.entries.now in
     record {
       inside = r.1;
@@ -82,7 +82,7 @@ loop-values-preserved c = elim c.if-close.branch [
       let lt = length-take c.close.new.trail.len c.close.new.trail.entries.now in
       let at : c.close.new.trail.len ≡ length (take c.close.new.trail.len c.close.new.trail.entries.now) = omega (arith, lt, c.close.new.trail.fits) in
       let k = loop_grown cs c.args.budget c.args.values.now c.loop-values.values c.loop-values.values c.close.new.values _ _ _ c.loop-values.steps c.loop-values.invariant.0 e.grown in
-      let n = loop_decide cs c.args.budget c.args.values.now c.loop-values.values c.close.new.values _ _ c.loop-values.steps j (negsuc j) (record { at = c.close.new.trail.len; var = j }) k (e.closed refl) e.whole (sym w.in-Some.ensures.is-the-lowest) h refl refl at refl in (
+      let n = loop_decide cs c.args.budget c.args.values.now c.loop-values.values c.close.new.values _ _ c.loop-values.steps j (negsuc j) (record { at = c.close.new.trail.len; var = j }) k (e.closed refl) e.whole (sym w.in-Some.ensures.is_the_lowest) h refl refl at refl in (
         kept_as cs c.args.budget c.args.values.now _ c.if-close.values _ _ _ _ _ (c.loop-values.steps + 1)
             (w.values-is ∙ f.values)
             (ap (λ (q : Stack ℤ). take q.len q.entries.now) w.trail-is ∙ f.trail)
@@ -100,14 +100,14 @@ loop-values-preserved c = elim c.if-close.branch [
       let h : c.loop-values.steps < c.args.budget = w.if-spent-2.false in
       let p : pred (d.var + 1) ≡ d.var = omega arith in
       let k = loop_grown cs c.args.budget c.args.values.now c.loop-values.values c.loop-values.values c.close.new.values _ _ _ c.loop-values.steps c.loop-values.invariant.0 e.grown in
-      let n = loop_turn cs c.args.budget c.args.values.now c.loop-values.values c.close.new.values _ _ _ d c.loop-values.steps (pos (d.var + 1)) k e.whole w.in-Some-pop.ensures.takes-the-latest h p refl in (
+      let n = loop_turn cs c.args.budget c.args.values.now c.loop-values.values c.close.new.values _ _ _ d c.loop-values.steps (pos (d.var + 1)) k e.whole w.in-Some-pop.ensures.takes_the_latest h p refl in (
         kept_as cs c.args.budget c.args.values.now _ c.if-close.values _ _ _ _ _ (c.loop-values.steps + 1)
             (w.values-is ∙ f.values)
             (ap (λ (q : Stack ℤ). take q.len q.entries.now) w.trail-is ∙ f.trail)
             (ap (λ (q : Stack Decision). take q.len q.entries.now) w.decisions-is)
             (add-one c.loop-values.steps) n,
         ap (λ (q : Stack ℤ). length q.entries.now) w.trail-is ∙ f.space ∙ e.space ∙ c.loop-values.invariant.1,
-        ap (λ (q : Stack Decision). length q.entries.now) w.decisions-is ∙ w.pop.ensures.keeps-its-room ∙ c.loop-values.invariant.2,
+        ap (λ (q : Stack Decision). length q.entries.now) w.decisions-is ∙ w.pop.ensures.keeps_its_room ∙ c.loop-values.invariant.2,
         omega (arith, h),
       ))
 ]

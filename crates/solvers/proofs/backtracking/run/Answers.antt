@@ -15,14 +15,14 @@ backtrack-solved-requires c =
     let s = c.args.store.now in
     let n = c.reopen.new.self in
     let h : s.variables ≤ 560 = start_small s.variables s.leading s.sized in
-    let l : length c.deref-mut.result.now ≡ s.variables = c.deref-mut.ensures.len ∙ c.reopen.ensures.len in
+    let l : length c.deref_mut.result.now ≡ s.variables = c.deref_mut.ensures.len ∙ c.reopen.ensures.len in
     record {
       ends = ends_as c.deref.result.now (vec_items n.literals) c.deref-2.result.now (vec_items n.ends) c.deref.ensures.value c.deref-2.ensures.value (ends_of (vec_items n.literals) (vec_len n.literals) 0 (vec_items n.ends) n.literals.ok.0 n.ended);
       few = omega (arith, h, l);
-      fresh = c.new-trail.ensures.has-no-entry;
-      blank = c.new-decisions.ensures.has-no-entry;
-      space = omega (arith, h, l, c.new-trail.ensures.has-the-room-lent, c.requires.room-for-literals);
-      more = omega (arith, h, l, c.new-decisions.ensures.has-the-room-lent, c.requires.room-for-decisions);
+      fresh = c.new-trail.ensures.has_no_entry;
+      blank = c.new-decisions.ensures.has_no_entry;
+      space = omega (arith, h, l, c.new-trail.ensures.has_the_room_lent, c.requires.room_for_literals);
+      more = omega (arith, h, l, c.new-decisions.ensures.has_the_room_lent, c.requires.room_for_decisions);
     }
 
 pub returns : goal.returns
@@ -30,10 +30,10 @@ returns c =
     let s = c.args.store.now in
     let e = c.reopen.ensures.state in
     let cs = ap₂ (λ (xs : List ℤ) (es : List ℕ). clauses_from xs 0 es) c.deref.ensures.value c.deref-2.ensures.value ∙ ap (λ (x : Model). x.clauses) e in
-    let a = c.deref-mut.ensures.value ∙ c.reopen.ensures.opened in
-    let q : backtracked (model_of s) c.args.budget ≡ answered c.backtrack-solved.result c.backtrack-solved.new.values = sym (ap₂ (λ (ys : List (List ℤ)) (b : Setting). backtracking lowest ys c.args.budget b) cs a) ∙ c.backtrack-solved.ensures.answers-as-defined in
+    let a = c.deref_mut.ensures.value ∙ c.reopen.ensures.opened in
+    let q : backtracked (model_of s) c.args.budget ≡ answered c.backtrack-solved.result c.backtrack-solved.new.values = sym (ap₂ (λ (ys : List (List ℤ)) (b : Setting). backtracking lowest ys c.args.budget b) cs a) ∙ c.backtrack-solved.ensures.answers_as_defined in
     record {
-      answers-as-defined = told_answered c.backtrack-solved.result c.backtrack-solved.new.values (backtracked (model_of s) c.args.budget) q;
-      leaves-as-defined = ap (λ (b : Setting). reads (model_of c.reopen.new.self) (cond c.is-found-store.result (Some (reading_of b)) None)) (with_items_is c.reopen.new.self.values c.backtrack-solved.new.values (c.backtrack-solved.auto.values ∙ c.deref-mut.ensures.len))
-          ∙ concluded (model_of s) (model_of c.reopen.new.self) c.backtrack-solved.result c.backtrack-solved.new.values (backtracked (model_of s) c.args.budget) c.is-found-store.result e q c.is-found-store.ensures.tells-found;
+      answers_as_defined = told_answered c.backtrack-solved.result c.backtrack-solved.new.values (backtracked (model_of s) c.args.budget) q;
+      leaves_as_defined = ap (λ (b : Setting). reads (model_of c.reopen.new.self) (cond c.is_found-store.result (Some (reading_of b)) None)) (with_items_is c.reopen.new.self.values c.backtrack-solved.new.values (c.backtrack-solved.auto.values ∙ c.deref_mut.ensures.len))
+          ∙ concluded (model_of s) (model_of c.reopen.new.self) c.backtrack-solved.result c.backtrack-solved.new.values (backtracked (model_of s) c.args.budget) c.is_found-store.result e q c.is_found-store.ensures.tells_found;
     }

@@ -15,7 +15,7 @@ pub returns-in-Broken : goal.returns-in-Broken
 returns-in-Broken c =
     let cs = clauses_from c.args.literals.now 0 c.args.ends.now in
     record {
-      whole = ap (λ a. violated a cs) (sym c.loop-literal.invariant.0) ∙ close_broken c.loop-literal.values _ cs (sym c.in-Broken.ensures.is-the-first-such-clause);
+      whole = ap (λ a. violated a cs) (sym c.loop-literal.invariant.0) ∙ close_broken c.loop-literal.values _ cs (sym c.in-Broken.ensures.is_the_first_such_clause);
       closed = λ e. absurd (false≢true e);
       grown = c.loop-literal.invariant.1;
       space = c.loop-literal.invariant.2;
@@ -24,7 +24,7 @@ returns-in-Broken c =
 pub returns-in-Nothing : goal.returns-in-Nothing
 returns-in-Nothing c =
     let cs = clauses_from c.args.literals.now 0 c.args.ends.now in
-    let h = close_rest c.loop-literal.values cs (sym c.in-Nothing.ensures.is-the-first-such-clause) in
+    let h = close_rest c.loop-literal.values cs (sym c.in-Nothing.ensures.is_the_first_such_clause) in
     record {
       whole = ap (λ a. violated a cs) (sym c.loop-literal.invariant.0 ∙ h.0) ∙ h.1;
       closed = λ e. sym h.0 ∙ c.loop-literal.invariant.0;
@@ -37,7 +37,7 @@ make-requires c =
     let v = c.loop-literal.values in
     let cs = clauses_from c.args.literals.now 0 c.args.ends.now in
     let f : SFits w16 c.in-Unit.literal = search rules in
-    let e = c.in-Unit.ensures.is-the-first-such-clause in
+    let e = c.in-Unit.ensures.is_the_first_such_clause in
     let o = close_open v _ cs c.in-Unit.literal (sym e) in
     let i = open_inside v (place c.in-Unit.literal) o in
     let p = open_some v (length v) (place c.in-Unit.literal) o i in
@@ -48,7 +48,7 @@ loop-literal-smaller c =
     let v = c.loop-literal.values in
     let cs = clauses_from c.args.literals.now 0 c.args.ends.now in
     let f : SFits w16 c.in-Unit.literal = search rules in
-    let e = c.in-Unit.ensures.is-the-first-such-clause in
+    let e = c.in-Unit.ensures.is_the_first_such_clause in
     let m = simp to_z-of_z at c.make.ensures.values in
     let g = made_falls v _ cs c.in-Unit.literal (sym e) in
     omega (arith, g, ap (λ a. open_in (length a) a) m)
@@ -58,7 +58,7 @@ loop-literal-preserved c =
     let v = c.loop-literal.values in
     let cs = clauses_from c.args.literals.now 0 c.args.ends.now in
     let f : SFits w16 c.in-Unit.literal = search rules in
-    let e = c.in-Unit.ensures.is-the-first-such-clause in
+    let e = c.in-Unit.ensures.is_the_first_such_clause in
     let m = simp to_z-of_z at c.make.ensures.values in
     let t = simp to_z-of_z at c.make.ensures.trail in
     let g = made_falls v _ cs c.in-Unit.literal (sym e) in (

@@ -8,37 +8,37 @@ use Rattle.solvers.proofs.count.count.Goals as goal
 pub returns-then-steps-all : goal.returns-then-steps-all
 returns-then-steps-all c =
     let cs = clauses_from c.args.literals.now 0 c.args.ends.now in
-    let h : 2 ^ c.args.leading ≤ c.loop-steps.steps = omega (arith, c.power-all.ensures.is-the-number-of-settings, c.if-steps-all.true) in
-    record { answers-as-defined = sym c.loop-steps.invariant.1 ∙ each_none cs (length c.args.values.now) c.args.leading c.args.budget c.loop-steps.steps h }
+    let h : 2 ^ c.args.leading ≤ c.loop-steps.steps = omega (arith, c.power-all.ensures.is_the_number_of_settings, c.if-steps-all.true) in
+    record { answers_as_defined = sym c.loop-steps.invariant.1 ∙ each_none cs (length c.args.values.now) c.args.leading c.args.budget c.loop-steps.steps h }
 
 pub returns-then-steps-budget : goal.returns-then-steps-budget
 returns-then-steps-budget c =
     let cs = clauses_from c.args.literals.now 0 c.args.ends.now in
-    let h : c.loop-steps.steps < 2 ^ c.args.leading = omega (arith, c.power-all.ensures.is-the-number-of-settings, c.if-steps-all.false) in
-    record { answers-as-defined = sym c.loop-steps.invariant.1 ∙ each_tired cs (length c.args.values.now) c.args.leading c.args.budget c.loop-steps.steps h c.if-steps-budget.true }
+    let h : c.loop-steps.steps < 2 ^ c.args.leading = omega (arith, c.power-all.ensures.is_the_number_of_settings, c.if-steps-all.false) in
+    record { answers_as_defined = sym c.loop-steps.invariant.1 ∙ each_tired cs (length c.args.values.now) c.args.leading c.args.budget c.loop-steps.steps h c.if-steps-budget.true }
 
 pub returns-in-Found : goal.returns-in-Found
 returns-in-Found c =
     let cs = clauses_from c.args.literals.now 0 c.args.ends.now in
     let s = c.loop-steps.steps in
-    let h : s < 2 ^ c.args.leading = omega (arith, c.power-all.ensures.is-the-number-of-settings, c.if-steps-all.false) in
-    let e = tried_as cs (length c.loop-steps.values) (length c.args.values.now) (bits_of c.args.leading s) (s + 1) _ c.loop-steps.auto.values (c.in-Found.ensures.is-what-it-comes-to (s + 1)) in
-    record { answers-as-defined = sym c.loop-steps.invariant.1 ∙ each_next cs (length c.args.values.now) c.args.leading c.args.budget s Found c.try-setting-verdict.new.values h c.if-steps-budget.false e }
+    let h : s < 2 ^ c.args.leading = omega (arith, c.power-all.ensures.is_the_number_of_settings, c.if-steps-all.false) in
+    let e = tried_as cs (length c.loop-steps.values) (length c.args.values.now) (bits_of c.args.leading s) (s + 1) _ c.loop-steps.auto.values (c.in-Found.ensures.is_what_it_comes_to (s + 1)) in
+    record { answers_as_defined = sym c.loop-steps.invariant.1 ∙ each_next cs (length c.args.values.now) c.args.leading c.args.budget s Found c.try_setting-verdict.new.values h c.if-steps-budget.false e }
 
 pub returns-in-Undecided : goal.returns-in-Undecided
 returns-in-Undecided c =
     let cs = clauses_from c.args.literals.now 0 c.args.ends.now in
     let s = c.loop-steps.steps in
-    let h : s < 2 ^ c.args.leading = omega (arith, c.power-all.ensures.is-the-number-of-settings, c.if-steps-all.false) in
-    let e = tried_as cs (length c.loop-steps.values) (length c.args.values.now) (bits_of c.args.leading s) (s + 1) _ c.loop-steps.auto.values (c.in-Undecided.ensures.is-what-it-comes-to (s + 1)) in
-    record { answers-as-defined = sym c.loop-steps.invariant.1 ∙ each_next cs (length c.args.values.now) c.args.leading c.args.budget s Undecided c.try-setting-verdict.new.values h c.if-steps-budget.false e }
+    let h : s < 2 ^ c.args.leading = omega (arith, c.power-all.ensures.is_the_number_of_settings, c.if-steps-all.false) in
+    let e = tried_as cs (length c.loop-steps.values) (length c.args.values.now) (bits_of c.args.leading s) (s + 1) _ c.loop-steps.auto.values (c.in-Undecided.ensures.is_what_it_comes_to (s + 1)) in
+    record { answers_as_defined = sym c.loop-steps.invariant.1 ∙ each_next cs (length c.args.values.now) c.args.leading c.args.budget s Undecided c.try_setting-verdict.new.values h c.if-steps-budget.false e }
 
 pub loop-steps-preserved : goal.loop-steps-preserved
 loop-steps-preserved c =
     let cs = clauses_from c.args.literals.now 0 c.args.ends.now in
     let s = c.loop-steps.steps in
-    let h : s < 2 ^ c.args.leading = omega (arith, c.power-all.ensures.is-the-number-of-settings, c.if-steps-all.false) in
-    let e = tried_as cs (length c.loop-steps.values) (length c.args.values.now) (bits_of c.args.leading s) (s + 1) _ c.loop-steps.auto.values (c.in-None.ensures.is-what-it-comes-to (s + 1)) in (
+    let h : s < 2 ^ c.args.leading = omega (arith, c.power-all.ensures.is_the_number_of_settings, c.if-steps-all.false) in
+    let e = tried_as cs (length c.loop-steps.values) (length c.args.values.now) (bits_of c.args.leading s) (s + 1) _ c.loop-steps.auto.values (c.in-None.ensures.is_what_it_comes_to (s + 1)) in (
       omega (arith, c.if-steps-all.false),
-      sym (each_next cs (length c.args.values.now) c.args.leading c.args.budget s None c.try-setting-verdict.new.values h c.if-steps-budget.false e) ∙ c.loop-steps.invariant.1,
+      sym (each_next cs (length c.args.values.now) c.args.leading c.args.budget s None c.try_setting-verdict.new.values h c.if-steps-budget.false e) ∙ c.loop-steps.invariant.1,
     )

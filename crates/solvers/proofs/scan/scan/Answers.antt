@@ -18,8 +18,8 @@ loop-i-preserved c =
     let row = c.args.literals.now in
     let l = get_or row c.loop-i.i (pos 0) in
     let f : SFits w16 l = search rules in
-    let e1 = simp to_z-of_z at c.join-state.ensures.joins-the-literal in
-    let e2 = simp to_z-of_z at c.value-of.ensures.is-the-literals-value in
+    let e1 = simp to_z-of_z at c.join-state.ensures.joins_the_literal in
+    let e2 = simp to_z-of_z at c.value_of.ensures.is_the_literals_value in
     let h = scan_more v row c.loop-i.i (get_or c.args.ends.now c.loop-c.c 0) c.loop-i.state _ c.loop-i-test.true (omega (arith, c.loop-i.invariant.0)) c.loop-i.invariant.1 in
     (c.loop-i.invariant.0, ap (λ (x : State). combined x (state_of v (take (get_or c.args.ends.now c.loop-c.c 0 - (c.loop-i.i + 1)) (drop (c.loop-i.i + 1) row)))) (e1 ∙ ap (λ o. joined o l c.loop-i.state) e2) ∙ h)
 
@@ -40,7 +40,7 @@ returns-in-Broken c =
     let ends = c.args.ends.now in
     let d = scan_done v row c.loop-i.i (get_or ends c.loop-c.c 0) c.loop-i.state _ c.loop-i-test.false c.loop-i.invariant.1 in
     let s = scan_clause v row c.loop-c.from c.loop-c.c ends c.loop-c-test.true in
-    record { is-the-first-such-clause = ap (λ (x : State). or_later c.loop-c.c x (foremost v (c.loop-c.c + 1) (clauses_from row (get_or ends c.loop-c.c 0) (drop (c.loop-c.c + 1) ends)))) (sym c.in-Broken.is ∙ d) ∙ sym s ∙ c.loop-c.invariant.1 }
+    record { is_the_first_such_clause = ap (λ (x : State). or_later c.loop-c.c x (foremost v (c.loop-c.c + 1) (clauses_from row (get_or ends c.loop-c.c 0) (drop (c.loop-c.c + 1) ends)))) (sym c.in-Broken.is ∙ d) ∙ sym s ∙ c.loop-c.invariant.1 }
 
 pub returns-in-Lone : goal.returns-in-Lone
 returns-in-Lone c =
@@ -50,7 +50,7 @@ returns-in-Lone c =
     let d = scan_done v row c.loop-i.i (get_or ends c.loop-c.c 0) c.loop-i.state _ c.loop-i-test.false c.loop-i.invariant.1 in
     let s = scan_clause v row c.loop-c.from c.loop-c.c ends c.loop-c-test.true in
     let f : SFits w16 c.in-Lone.literal = search rules in
-    record { is-the-first-such-clause = simp to_z-of_z (ap (λ (x : State). or_later c.loop-c.c x (foremost v (c.loop-c.c + 1) (clauses_from row (get_or ends c.loop-c.c 0) (drop (c.loop-c.c + 1) ends)))) (sym c.in-Lone.is ∙ d) ∙ sym s ∙ c.loop-c.invariant.1) }
+    record { is_the_first_such_clause = simp to_z-of_z (ap (λ (x : State). or_later c.loop-c.c x (foremost v (c.loop-c.c + 1) (clauses_from row (get_or ends c.loop-c.c 0) (drop (c.loop-c.c + 1) ends)))) (sym c.in-Lone.is ∙ d) ∙ sym s ∙ c.loop-c.invariant.1) }
 
 pub returns-after-loop-c : goal.returns-after-loop-c
-returns-after-loop-c c = record { is-the-first-such-clause = sym (scan_end c.args.values.now c.args.literals.now c.loop-c.from c.loop-c.c c.loop-c.c c.args.ends.now c.loop-c-test.false) ∙ c.loop-c.invariant.1 }
+returns-after-loop-c c = record { is_the_first_such_clause = sym (scan_end c.args.values.now c.args.literals.now c.loop-c.from c.loop-c.c c.loop-c.c c.args.ends.now c.loop-c-test.false) ∙ c.loop-c.invariant.1 }

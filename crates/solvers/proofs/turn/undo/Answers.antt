@@ -7,6 +7,6 @@ use Rattle.solvers.proofs.turn.undo.Goals as goal
 pub returns-else-j-values : goal.returns-else-j-values
 returns-else-j-values c =
     let f : SFits w16 c.in-Some.literal = search rules in
-    let p = simp to_z-of_z at c.place-of-j.ensures.is-the-variables-place in
+    let p = simp to_z-of_z at c.place_of-j.ensures.is_the_variables_place in
     let h : length c.args.values.now ≤ place c.in-Some.literal = omega (arith, p, c.if-j-values.false) in
-    record { latest = (c.in-Some.literal, c.in-Some.ensures.takes-the-latest, sym (set_past c.args.values.now (place c.in-Some.literal) None h)); len = search rules; space = search rules }
+    record { latest = (c.in-Some.literal, c.in-Some.ensures.takes_the_latest, sym (set_past c.args.values.now (place c.in-Some.literal) None h)); len = search rules; space = search rules }

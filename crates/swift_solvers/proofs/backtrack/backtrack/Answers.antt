@@ -18,7 +18,7 @@ pub returns-then-not-begin : goal.returns-then-not-begin
 returns-then-not-begin c =
     let cs = clauses_of c.args.clauses in
     let e = c.if-not-begin.ensures in
-    record { answers-as-defined = deep_broken lowest lowest_law.0 cs c.args.budget c.args.values.now c.begin.new.values 0 e.reached (e.broken refl) }
+    record { answers_as_defined = deep_broken lowest lowest_law.0 cs c.args.budget c.args.values.now c.begin.new.values 0 e.reached (e.broken refl) }
 
 pub begin-requires : goal.begin-requires
 begin-requires c = record { ended = c.requires.listed.ended; space = omega (arith, c.requires.fresh, c.requires.space, open_most (length c.args.values.now) c.args.values.now) }
@@ -58,21 +58,21 @@ returns-in-None c =
     let cs = clauses_of c.args.clauses in
     let e = c.if-follow.ensures in
     let k = loop_grown cs c.args.budget c.begin.new.values c.loop-values.values c.loop-values.values c.follow.new.values _ _ _ c.loop-values.steps c.loop-values.invariant.0 e.grown in
-    record { answers-as-defined = sym (deep_reached lowest lowest_law.0 cs c.args.budget c.args.values.now c.begin.new.values 0 c.if-not-begin.ensures.reached) ∙ loop_found cs c.args.budget c.begin.new.values c.loop-values.values c.follow.new.values _ _ c.loop-values.steps k (e.closes.closed refl) e.closes.whole (sym c.in-None.ensures.is-the-lowest) }
+    record { answers_as_defined = sym (deep_reached lowest lowest_law.0 cs c.args.budget c.args.values.now c.begin.new.values 0 c.if-not-begin.ensures.reached) ∙ loop_found cs c.args.budget c.begin.new.values c.loop-values.values c.follow.new.values _ _ c.loop-values.steps k (e.closes.closed refl) e.closes.whole (sym c.in-None.ensures.is_the_lowest) }
 
 pub returns-in-Some : goal.returns-in-Some
 returns-in-Some c =
     let cs = clauses_of c.args.clauses in
     let e = c.if-follow.ensures in
     let k = loop_grown cs c.args.budget c.begin.new.values c.loop-values.values c.loop-values.values c.follow.new.values _ _ _ c.loop-values.steps c.loop-values.invariant.0 e.grown in
-    record { answers-as-defined = sym (deep_reached lowest lowest_law.0 cs c.args.budget c.args.values.now c.begin.new.values 0 c.if-not-begin.ensures.reached) ∙ loop_weary cs c.args.budget c.begin.new.values c.loop-values.values c.follow.new.values _ _ c.loop-values.steps c.in-Some.field-0 k (e.closes.closed refl) e.closes.whole (sym c.in-Some.ensures.is-the-lowest) c.if-spent.true }
+    record { answers_as_defined = sym (deep_reached lowest lowest_law.0 cs c.args.budget c.args.values.now c.begin.new.values 0 c.if-not-begin.ensures.reached) ∙ loop_weary cs c.args.budget c.begin.new.values c.loop-values.values c.follow.new.values _ _ c.loop-values.steps c.in-Some.field-0 k (e.closes.closed refl) e.closes.whole (sym c.in-Some.ensures.is_the_lowest) c.if-spent.true }
 
 pub decide-requires : goal.decide-requires
 decide-requires c =
     let cs = clauses_of c.args.clauses in
     let e = c.if-follow.ensures in
     let k = loop_grown cs c.args.budget c.begin.new.values c.loop-values.values c.loop-values.values c.follow.new.values _ _ _ c.loop-values.steps c.loop-values.invariant.0 e.grown in
-    let r = decide_ready cs c.args.budget c.begin.new.values c.loop-values.values c.follow.new.values _ _ c.loop-values.steps c.in-Some.field-0 k (sym c.in-Some.ensures.is-the-lowest) in
+    let r = decide_ready cs c.args.budget c.begin.new.values c.loop-values.values c.follow.new.values _ _ c.loop-values.steps c.in-Some.field-0 k (sym c.in-Some.ensures.is_the_lowest) in
     let lt = length-take c.follow.new.trail.len c.follow.new.trail.entries.now in
     let lc = length-take c.loop-values.decisions.len c.loop-values.decisions.entries.now in
     record {
@@ -87,23 +87,23 @@ returns-in-None-pop c =
     let cs = clauses_of c.args.clauses in
     let e = c.if-follow.ensures in
     let k = loop_grown cs c.args.budget c.begin.new.values c.loop-values.values c.loop-values.values c.follow.new.values _ _ _ c.loop-values.steps c.loop-values.invariant.0 e.grown in
-    let z = false-ltb 0 c.loop-values.decisions.len c.in-None-pop.ensures.has-one-unless-empty in
+    let z = false-ltb 0 c.loop-values.decisions.len c.in-None-pop.ensures.has_one_unless_empty in
     let n : c.loop-values.decisions.len ≡ 0 = omega (arith, z) in
-    record { answers-as-defined = sym (deep_reached lowest lowest_law.0 cs c.args.budget c.args.values.now c.begin.new.values 0 c.if-not-begin.ensures.reached) ∙ loop_empty cs c.args.budget c.begin.new.values c.loop-values.values c.follow.new.values _ _ c.loop-values.steps k (ap (λ m. take m c.loop-values.decisions.entries.now) n) e.closes.whole }
+    record { answers_as_defined = sym (deep_reached lowest lowest_law.0 cs c.args.budget c.args.values.now c.begin.new.values 0 c.if-not-begin.ensures.reached) ∙ loop_empty cs c.args.budget c.begin.new.values c.loop-values.values c.follow.new.values _ _ c.loop-values.steps k (ap (λ m. take m c.loop-values.decisions.entries.now) n) e.closes.whole }
 
 pub returns-in-Some-pop : goal.returns-in-Some-pop
 returns-in-Some-pop c =
     let cs = clauses_of c.args.clauses in
     let e = c.if-follow.ensures in
     let k = loop_grown cs c.args.budget c.begin.new.values c.loop-values.values c.loop-values.values c.follow.new.values _ _ _ c.loop-values.steps c.loop-values.invariant.0 e.grown in
-    record { answers-as-defined = sym (deep_reached lowest lowest_law.0 cs c.args.budget c.args.values.now c.begin.new.values 0 c.if-not-begin.ensures.reached) ∙ loop_tired cs c.args.budget c.begin.new.values c.loop-values.values c.follow.new.values _ _ _ c.in-Some-pop.field-0 c.loop-values.steps k e.closes.whole c.in-Some-pop.ensures.takes-the-latest c.if-spent-2.true }
+    record { answers_as_defined = sym (deep_reached lowest lowest_law.0 cs c.args.budget c.args.values.now c.begin.new.values 0 c.if-not-begin.ensures.reached) ∙ loop_tired cs c.args.budget c.begin.new.values c.loop-values.values c.follow.new.values _ _ _ c.in-Some-pop.field-0 c.loop-values.steps k e.closes.whole c.in-Some-pop.ensures.takes_the_latest c.if-spent-2.true }
 
 pub turn-requires : goal.turn-requires
 turn-requires c =
     let cs = clauses_of c.args.clauses in
     let e = c.if-follow.ensures in
     let k = loop_grown cs c.args.budget c.begin.new.values c.loop-values.values c.loop-values.values c.follow.new.values _ _ _ c.loop-values.steps c.loop-values.invariant.0 e.grown in
-    let r = turn_ready cs c.args.budget c.begin.new.values c.loop-values.values c.follow.new.values _ _ _ c.in-Some-pop.field-0 c.loop-values.steps k c.in-Some-pop.ensures.takes-the-latest in
+    let r = turn_ready cs c.args.budget c.begin.new.values c.loop-values.values c.follow.new.values _ _ _ c.in-Some-pop.field-0 c.loop-values.steps k c.in-Some-pop.ensures.takes_the_latest in
     let lt = length-take c.follow.new.trail.len c.follow.new.trail.entries.now in
     record {
       inside = r.1;
@@ -111,16 +111,16 @@ turn-requires c =
       back = omega (arith, r.0, lt, c.follow.new.trail.fits);
     }
 
-pub overflow-sub-front : goal.overflow-sub-front
-overflow-sub-front c = elim c.if-follow.branch [
+pub overflow_sub-front : goal.overflow_sub-front
+overflow_sub-front c = elim c.if-follow.branch [
   | then-follow+in-Some-2 w ↦
       (let tw = ap (λ (q : Stack ℤ). length (take q.len q.entries.now)) w.trail-is ∙ ap length w.decide.ensures.trail ∙ length-append _ (negsuc w.in-Some.field-0 ∷ []) in
       let lu = length-take c.if-follow.trail.len c.if-follow.trail.entries.now in
-      omega (arith, lu, tw, c.if-follow.trail.fits, c.len-front.ensures.counts-the-entries))
+      omega (arith, lu, tw, c.if-follow.trail.fits, c.len-front.ensures.counts_the_entries))
   | else-follow+in-Some-2-pop w ↦
       (let tw = ap (λ (q : Stack ℤ). length (take q.len q.entries.now)) w.trail-is ∙ ap length w.turn.ensures.trail ∙ length-append _ (pos (w.in-Some-pop.field-0.var + 1) ∷ []) in
       let lu = length-take c.if-follow.trail.len c.if-follow.trail.entries.now in
-      omega (arith, lu, tw, c.if-follow.trail.fits, c.len-front.ensures.counts-the-entries))
+      omega (arith, lu, tw, c.if-follow.trail.fits, c.len-front.ensures.counts_the_entries))
 ]
 
 pub loop-values-preserved : goal.loop-values-preserved
@@ -139,7 +139,7 @@ loop-values-preserved c = elim c.if-follow.branch [
       let lu = length-take c.if-follow.trail.len c.if-follow.trail.entries.now in
       let lw = ap length tw in
       let la = length-append t (negsuc j ∷ []) in
-      let n = loop_decide cs c.args.budget c.begin.new.values c.loop-values.values c.follow.new.values _ _ c.loop-values.steps j (negsuc j) (record { at = c.follow.new.trail.len; var = j }) k (e.closes.closed refl) e.closes.whole (sym w.in-Some.ensures.is-the-lowest) h refl refl at refl in (
+      let n = loop_decide cs c.args.budget c.begin.new.values c.loop-values.values c.follow.new.values _ _ c.loop-values.steps j (negsuc j) (record { at = c.follow.new.trail.len; var = j }) k (e.closes.closed refl) e.closes.whole (sym w.in-Some.ensures.is_the_lowest) h refl refl at refl in (
         kept_as cs c.args.budget c.begin.new.values _ c.if-follow.values _ _ _ _ _ (c.loop-values.steps + 1)
             (w.values-is ∙ f.values)
             (ap (λ (q : Stack ℤ). take q.len q.entries.now) w.trail-is ∙ f.trail)
@@ -148,8 +148,8 @@ loop-values-preserved c = elim c.if-follow.branch [
         ap (λ (q : Stack ℤ). length q.entries.now) w.trail-is ∙ f.space ∙ e.space ∙ c.loop-values.invariant.1,
         ap (λ (q : Stack Decision). length q.entries.now) w.decisions-is ∙ f.kept ∙ c.loop-values.invariant.2,
         omega (arith, h),
-        pending_as cs _ _ _ _ (sym (w.values-is ∙ f.values)) (ap (λ (x : List ℤ). drop (c.len-front.result - 1) x) (sym tw)) (decide_pending cs c.args.budget c.begin.new.values c.loop-values.values c.follow.new.values _ j (c.len-front.result - 1) (negsuc j) (e.closes.closed refl) e.closes.whole (sym w.in-Some.ensures.is-the-lowest) refl (omega (arith, lu, lw, la, c.if-follow.trail.fits, c.len-front.ensures.counts-the-entries))),
-        omega (arith, c.len-front.ensures.counts-the-entries),
+        pending_as cs _ _ _ _ (sym (w.values-is ∙ f.values)) (ap (λ (x : List ℤ). drop (c.len-front.result - 1) x) (sym tw)) (decide_pending cs c.args.budget c.begin.new.values c.loop-values.values c.follow.new.values _ j (c.len-front.result - 1) (negsuc j) (e.closes.closed refl) e.closes.whole (sym w.in-Some.ensures.is_the_lowest) refl (omega (arith, lu, lw, la, c.if-follow.trail.fits, c.len-front.ensures.counts_the_entries))),
+        omega (arith, c.len-front.ensures.counts_the_entries),
       ))
   | else-follow+in-Some-2-pop w ↦
       (let cs = clauses_of c.args.clauses in
@@ -161,22 +161,22 @@ loop-values-preserved c = elim c.if-follow.branch [
       let k = loop_grown cs c.args.budget c.begin.new.values c.loop-values.values c.loop-values.values c.follow.new.values _ _ _ c.loop-values.steps c.loop-values.invariant.0 e.grown in
       let t = take c.follow.new.trail.len c.follow.new.trail.entries.now in
       let lt = length-take c.follow.new.trail.len c.follow.new.trail.entries.now in
-      let r = turn_ready cs c.args.budget c.begin.new.values c.loop-values.values c.follow.new.values _ _ _ d c.loop-values.steps k w.in-Some-pop.ensures.takes-the-latest in
+      let r = turn_ready cs c.args.budget c.begin.new.values c.loop-values.values c.follow.new.values _ _ _ d c.loop-values.steps k w.in-Some-pop.ensures.takes_the_latest in
       let tw : take c.if-follow.trail.len c.if-follow.trail.entries.now ≡ take d.at t ++ (pos (d.var + 1) ∷ []) = ap (λ (q : Stack ℤ). take q.len q.entries.now) w.trail-is ∙ f.trail in
       let lu = length-take c.if-follow.trail.len c.if-follow.trail.entries.now in
       let lw = ap length tw in
       let la = length-append (take d.at t) (pos (d.var + 1) ∷ []) in
       let lb = length-take d.at t in
-      let n = loop_turn cs c.args.budget c.begin.new.values c.loop-values.values c.follow.new.values _ _ _ d c.loop-values.steps (pos (d.var + 1)) k e.closes.whole w.in-Some-pop.ensures.takes-the-latest h p refl in (
+      let n = loop_turn cs c.args.budget c.begin.new.values c.loop-values.values c.follow.new.values _ _ _ d c.loop-values.steps (pos (d.var + 1)) k e.closes.whole w.in-Some-pop.ensures.takes_the_latest h p refl in (
         kept_as cs c.args.budget c.begin.new.values _ c.if-follow.values _ _ _ _ _ (c.loop-values.steps + 1)
             (w.values-is ∙ f.values)
             (ap (λ (q : Stack ℤ). take q.len q.entries.now) w.trail-is ∙ f.trail)
             (ap (λ (q : Stack Decision). take q.len q.entries.now) w.decisions-is)
             (add-one c.loop-values.steps) n,
         ap (λ (q : Stack ℤ). length q.entries.now) w.trail-is ∙ f.space ∙ e.space ∙ c.loop-values.invariant.1,
-        ap (λ (q : Stack Decision). length q.entries.now) w.decisions-is ∙ w.pop.ensures.keeps-its-room ∙ c.loop-values.invariant.2,
+        ap (λ (q : Stack Decision). length q.entries.now) w.decisions-is ∙ w.pop.ensures.keeps_its_room ∙ c.loop-values.invariant.2,
         omega (arith, h),
-        pending_as cs _ _ _ _ (sym (w.values-is ∙ f.values)) (ap (λ (x : List ℤ). drop (c.len-front.result - 1) x) (sym tw)) (turn_pending cs c.args.budget c.begin.new.values c.loop-values.values c.follow.new.values _ _ _ d c.loop-values.steps (c.len-front.result - 1) (pos (d.var + 1)) k w.in-Some-pop.ensures.takes-the-latest p (omega (arith, lu, lw, la, lb, lt, r.0, c.follow.new.trail.fits, c.if-follow.trail.fits, c.len-front.ensures.counts-the-entries))),
-        omega (arith, c.len-front.ensures.counts-the-entries),
+        pending_as cs _ _ _ _ (sym (w.values-is ∙ f.values)) (ap (λ (x : List ℤ). drop (c.len-front.result - 1) x) (sym tw)) (turn_pending cs c.args.budget c.begin.new.values c.loop-values.values c.follow.new.values _ _ _ d c.loop-values.steps (c.len-front.result - 1) (pos (d.var + 1)) k w.in-Some-pop.ensures.takes_the_latest p (omega (arith, lu, lw, la, lb, lt, r.0, c.follow.new.trail.fits, c.if-follow.trail.fits, c.len-front.ensures.counts_the_entries))),
+        omega (arith, c.len-front.ensures.counts_the_entries),
       ))
 ]

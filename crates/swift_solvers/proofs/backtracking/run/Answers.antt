@@ -23,10 +23,10 @@ returns c =
     let s = c.args.store.now in
     let e = c.reopen.ensures.state in
     let cs = ap₂ (λ (xs : List ℤ) (es : List ℕ). clauses_from xs 0 es) c.deref-3.ensures.value c.deref-4.ensures.value ∙ ap (λ (x : Model). x.clauses) e in
-    let a = c.deref-mut.ensures.value ∙ c.reopen.ensures.opened in
-    let q : backtracked (model_of s) c.args.budget ≡ answered c.backtrack-solved.result c.backtrack-solved.new.values = sym (ap₂ (λ (ys : List (List ℤ)) (b : Setting). backtracking lowest ys c.args.budget b) cs a) ∙ c.backtrack-solved.ensures.answers-as-defined in
+    let a = c.deref_mut.ensures.value ∙ c.reopen.ensures.opened in
+    let q : backtracked (model_of s) c.args.budget ≡ answered c.backtrack-solved.result c.backtrack-solved.new.values = sym (ap₂ (λ (ys : List (List ℤ)) (b : Setting). backtracking lowest ys c.args.budget b) cs a) ∙ c.backtrack-solved.ensures.answers_as_defined in
     record {
-      answers-as-defined = told_answered c.backtrack-solved.result c.backtrack-solved.new.values (backtracked (model_of s) c.args.budget) q;
-      leaves-as-defined = ap (λ (b : Setting). reads (model_of c.reopen.new.self) (cond c.is-found-store.result (Some (reading_of b)) None)) (with_items_is c.reopen.new.self.values c.backtrack-solved.new.values (c.backtrack-solved.auto.values ∙ c.deref-mut.ensures.len))
-          ∙ concluded (model_of s) (model_of c.reopen.new.self) c.backtrack-solved.result c.backtrack-solved.new.values (backtracked (model_of s) c.args.budget) c.is-found-store.result e q c.is-found-store.ensures.tells-found;
+      answers_as_defined = told_answered c.backtrack-solved.result c.backtrack-solved.new.values (backtracked (model_of s) c.args.budget) q;
+      leaves_as_defined = ap (λ (b : Setting). reads (model_of c.reopen.new.self) (cond c.is_found-store.result (Some (reading_of b)) None)) (with_items_is c.reopen.new.self.values c.backtrack-solved.new.values (c.backtrack-solved.auto.values ∙ c.deref_mut.ensures.len))
+          ∙ concluded (model_of s) (model_of c.reopen.new.self) c.backtrack-solved.result c.backtrack-solved.new.values (backtracked (model_of s) c.args.budget) c.is_found-store.result e q c.is_found-store.ensures.tells_found;
     }

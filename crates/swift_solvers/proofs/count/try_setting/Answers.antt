@@ -13,17 +13,17 @@ close-requires c =
       listed = c.requires.listed;
       few = omega (arith, c.enter.auto.values, c.requires.small);
       wide = omega (arith, c.enter.auto.values, c.requires.wide);
-      space = omega (arith, o, c.enter.auto.values, c.new-trail.ensures.has-no-entry, c.new-trail.ensures.has-the-room-lent, c.requires.space);
+      space = omega (arith, o, c.enter.auto.values, c.new-trail.ensures.has_no_entry, c.new-trail.ensures.has_the_room_lent, c.requires.space);
     }
 
 pub returns-in-None : goal.returns-in-None
 returns-in-None c =
     let cs = clauses_of c.args.clauses in
     let e = c.if-not-close.ensures in
-    record { is-what-it-comes-to = λ s. tried_found cs (length c.args.values.now) (bits_of c.args.leading c.args.number) c.enter.new.values c.close.new.values c.enter.ensures.is-entered s e.closes.whole (e.closes.closed refl) (c.close.auto.values ∙ c.enter.auto.values) (sym c.in-None.ensures.is-the-lowest) }
+    record { is_what_it_comes_to = λ s. tried_found cs (length c.args.values.now) (bits_of c.args.leading c.args.number) c.enter.new.values c.close.new.values c.enter.ensures.is_entered s e.closes.whole (e.closes.closed refl) (c.close.auto.values ∙ c.enter.auto.values) (sym c.in-None.ensures.is_the_lowest) }
 
 pub returns-in-Some : goal.returns-in-Some
 returns-in-Some c =
     let cs = clauses_of c.args.clauses in
     let e = c.if-not-close.ensures in
-    record { is-what-it-comes-to = λ s. tried_open cs (length c.args.values.now) (bits_of c.args.leading c.args.number) c.enter.new.values c.close.new.values c.enter.ensures.is-entered s _ e.closes.whole (e.closes.closed refl) (c.close.auto.values ∙ c.enter.auto.values) (sym c.in-Some.ensures.is-the-lowest) }
+    record { is_what_it_comes_to = λ s. tried_open cs (length c.args.values.now) (bits_of c.args.leading c.args.number) c.enter.new.values c.close.new.values c.enter.ensures.is_entered s _ e.closes.whole (e.closes.closed refl) (c.close.auto.values ∙ c.enter.auto.values) (sym c.in-Some.ensures.is_the_lowest) }

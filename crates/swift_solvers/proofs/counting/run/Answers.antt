@@ -23,11 +23,11 @@ returns c =
     let s = c.args.store.now in
     let e = c.reopen.ensures.state in
     let cs = ap₂ (λ (xs : List ℤ) (es : List ℕ). clauses_from xs 0 es) c.deref-3.ensures.value c.deref-4.ensures.value ∙ ap (λ (x : Model). x.clauses) e in
-    let l : length c.deref-mut.result.now ≡ s.variables = c.deref-mut.ensures.len ∙ c.reopen.ensures.len in
+    let l : length c.deref_mut.result.now ≡ s.variables = c.deref_mut.ensures.len ∙ c.reopen.ensures.len in
     let k : c.reopen.new.self.leading ≡ s.leading = ap (λ (x : Model). x.leading) e in
-    let q : counted (model_of s) c.args.budget ≡ answered c.count-solved.result c.count-solved.new.values = sym (ap₂ (λ (ys : List (List ℤ)) (v : ℕ). counting ys v c.reopen.new.self.leading c.args.budget) cs l ∙ ap (λ n. counting (model_of s).clauses s.variables n c.args.budget) k) ∙ c.count-solved.ensures.answers-as-defined in
+    let q : counted (model_of s) c.args.budget ≡ answered c.count-solved.result c.count-solved.new.values = sym (ap₂ (λ (ys : List (List ℤ)) (v : ℕ). counting ys v c.reopen.new.self.leading c.args.budget) cs l ∙ ap (λ n. counting (model_of s).clauses s.variables n c.args.budget) k) ∙ c.count-solved.ensures.answers_as_defined in
     record {
-      answers-as-defined = told_answered c.count-solved.result c.count-solved.new.values (counted (model_of s) c.args.budget) q;
-      leaves-as-defined = ap (λ (b : Setting). reads (model_of c.reopen.new.self) (cond c.is-found-store.result (Some (reading_of b)) None)) (with_items_is c.reopen.new.self.values c.count-solved.new.values (c.count-solved.auto.values ∙ c.deref-mut.ensures.len))
-          ∙ concluded (model_of s) (model_of c.reopen.new.self) c.count-solved.result c.count-solved.new.values (counted (model_of s) c.args.budget) c.is-found-store.result e q c.is-found-store.ensures.tells-found;
+      answers_as_defined = told_answered c.count-solved.result c.count-solved.new.values (counted (model_of s) c.args.budget) q;
+      leaves_as_defined = ap (λ (b : Setting). reads (model_of c.reopen.new.self) (cond c.is_found-store.result (Some (reading_of b)) None)) (with_items_is c.reopen.new.self.values c.count-solved.new.values (c.count-solved.auto.values ∙ c.deref_mut.ensures.len))
+          ∙ concluded (model_of s) (model_of c.reopen.new.self) c.count-solved.result c.count-solved.new.values (counted (model_of s) c.args.budget) c.is_found-store.result e q c.is_found-store.ensures.tells_found;
     }

@@ -7,4 +7,4 @@ use Rattle.swift_solvers.proofs.enter.enter.Goals as goal
 pub returns : goal.returns
 returns c =
     let bs = bits_of c.args.leading c.args.number in
-    record { is-entered = c.write-bits.ensures.are_written ∙ ap (λ (a : Setting). written a 0 bs) c.open_all.ensures.all-are-open ∙ written_leads (length c.args.values.now) bs (omega (arith, bits_length c.args.leading c.args.number, c.requires.inside)) }
+    record { is_entered = c.write_bits.ensures.are_written ∙ ap (λ (a : Setting). written a 0 bs) c.open_all.ensures.all_are_open ∙ written_leads (length c.args.values.now) bs (omega (arith, bits_length c.args.leading c.args.number, c.requires.inside)) }

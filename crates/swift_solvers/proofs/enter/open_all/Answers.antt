@@ -12,4 +12,4 @@ loop-j-preserved c =
 pub returns : goal.returns
 returns c =
     let n = length c.args.values.now in
-    record { all-are-open = ext_get_or None c.loop-j.values _ (c.loop-j.auto.values ∙ sym (length-replicate n None)) (λ k h. c.loop-j.invariant k (omega (arith, h, c.loop-j.auto.values, c.loop-j-test.false)) ∙ sym (get_or-replicate n k None None (omega (arith, h, c.loop-j.auto.values)))) }
+    record { all_are_open = ext_get_or None c.loop-j.values _ (c.loop-j.auto.values ∙ sym (length-replicate n None)) (λ k h. c.loop-j.invariant k (omega (arith, h, c.loop-j.auto.values, c.loop-j-test.false)) ∙ sym (get_or-replicate n k None None (omega (arith, h, c.loop-j.auto.values)))) }

@@ -11,8 +11,8 @@ use Rattle.tester.proofs.outputs.show.Goals as goal
 pub bounds-nets-net : goal.bounds-nets-net
 bounds-nets-net c =
     let n = netlist_of c.args.card.now in
-    let law = c.outputs-net-items.ensures.every-card-keeps-the-rules in
-    let o = c.outputs-net-items.ensures.are-the-outputs in
+    let law = c.outputs-net-items.ensures.every_card_keeps_the_rules in
+    let o = c.outputs-net-items.ensures.are_the_outputs in
     let t = c.loop-i-test.true in
     let b = output_below n c.loop-i.i 0 law (subst (λ xs. c.loop-i.i < length xs) o t) in
     let f = law.nets_fit in
@@ -23,21 +23,21 @@ pub loop-i-preserved : goal.loop-i-preserved
 loop-i-preserved c =
     let n = netlist_of c.args.card.now in
     let v = cells_of c.args.vector.now in
-    let law = c.outputs-net-items.ensures.every-card-keeps-the-rules in
-    let o = c.outputs-net-items.ensures.are-the-outputs in
+    let law = c.outputs-net-items.ensures.every_card_keeps_the_rules in
+    let o = c.outputs-net-items.ensures.are_the_outputs in
     let t = c.loop-i-test.true in
     let long = ap length o in
     let len = length_characters n v in
     let room = c.requires.room in
     over_more (characters n v) c.args.out.now c.loop-i.out c.loop-i.i c.character.result c.loop-i.invariant (omega (arith, len, t, long)) (omega (arith, len, room))
-    (character_read n v c.outputs-net-items.result.now c.args.nets.now c.loop-i.i c.character.result _ o law t (search rules) c.requires.walked c.character.ensures.is-the-cells-character)
+    (character_read n v c.outputs-net-items.result.now c.args.nets.now c.loop-i.i c.character.result _ o law t (search rules) c.requires.walked c.character.ensures.is_the_cells_character)
 
 pub returns : goal.returns
 returns c =
     let n = netlist_of c.args.card.now in
     let v = cells_of c.args.vector.now in
-    let o = ap length c.outputs-net-items.ensures.are-the-outputs in
+    let o = ap length c.outputs-net-items.ensures.are_the_outputs in
     let len = length_characters n v in
     let l = c.loop-i-test.false in
     let k = c.loop-i.auto.i-end in
-    record { writes-the-characters = over_all (characters n v) c.args.out.now c.loop-i.out c.loop-i.i c.loop-i.invariant (omega (arith, len, l, k, o)) }
+    record { writes_the_characters = over_all (characters n v) c.args.out.now c.loop-i.out c.loop-i.i c.loop-i.invariant (omega (arith, len, l, k, o)) }

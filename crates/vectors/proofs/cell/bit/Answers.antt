@@ -9,5 +9,5 @@ returns-then-place-lt32 c = search (rules, bit_masked)
 
 pub returns-else-place-lt32 : goal.returns-else-place-lt32
 returns-else-place-lt32 c = record {
-  is-the-bit = le-ltb c.args.place 32 c.if-place-lt32.false ∙ sym (bit_past c.args.number 32 c.args.place (omega arith) (omega arith));
+  is_the_bit = le-ltb c.args.place 32 c.if-place-lt32.false ∙ sym (bit_past c.args.number 32 c.args.place (omega arith) (omega arith));
 }

@@ -6,22 +6,22 @@ use Rattle.vectors.specs.Vectors.{bit_at}
 use Rattle.vectors.proofs.Freed.{bit_within, without_set}
 use Rattle.vectors.proofs.freeing.without.Goals as goal
 
-pub overflow-cast-result : goal.overflow-cast-result
-overflow-cast-result c =
-    let b : c.args.place < 32 = bit_within c.args.number 32 c.args.place (omega arith) (sym c.if-bit.ensures.is-the-bit) in omega arith
+pub overflow_cast-result : goal.overflow_cast-result
+overflow_cast-result c =
+    let b : c.args.place < 32 = bit_within c.args.number 32 c.args.place (omega arith) (sym c.if-bit.ensures.is_the_bit) in omega arith
 
-pub overflow-shl-result : goal.overflow-shl-result
-overflow-shl-result c = bit_within c.args.number 32 c.args.place (omega arith) (sym c.if-bit.ensures.is-the-bit)
+pub overflow_shl-result : goal.overflow_shl-result
+overflow_shl-result c = bit_within c.args.number 32 c.args.place (omega arith) (sym c.if-bit.ensures.is_the_bit)
 
-pub overflow-sub-result : goal.overflow-sub-result
-overflow-sub-result c =
-    let b = bit_within c.args.number 32 c.args.place (omega arith) (sym c.if-bit.ensures.is-the-bit) in
+pub overflow_sub-result : goal.overflow_sub-result
+overflow_sub-result c =
+    let b = bit_within c.args.number 32 c.args.place (omega arith) (sym c.if-bit.ensures.is_the_bit) in
     let e = one_shl c.args.place 32 b in
-    let s = without_set c.args.number c.args.place (sym c.if-bit.ensures.is-the-bit) in
+    let s = without_set c.args.number c.args.place (sym c.if-bit.ensures.is_the_bit) in
     subst (λ (w : ℕ). w ≤ c.args.number) (sym e) s
 
 pub returns-then-bit : goal.returns-then-bit
 returns-then-bit c =
-    let t = sym c.if-bit.ensures.is-the-bit in
+    let t = sym c.if-bit.ensures.is_the_bit in
     let e = one_shl c.args.place 32 (bit_within c.args.number 32 c.args.place (omega arith) t) in
-    record { lacks-the-bit = ap (λ (w : ℕ). c.args.number - w) e ∙ sym (cond-true (bit_at c.args.number c.args.place) (c.args.number - 2 ^ c.args.place) c.args.number t) }
+    record { lacks_the_bit = ap (λ (w : ℕ). c.args.number - w) e ∙ sym (cond-true (bit_at c.args.number c.args.place) (c.args.number - 2 ^ c.args.place) c.args.number t) }

@@ -10,15 +10,15 @@ returns-then-a-b-ne0 c =
     let a = cells_of c.args.a.now in
     let b = cells_of c.args.b.now in
     record {
-      merged-exactly-if-no-bit-clashes = sym (ne_eqb _ 0 c.if-a-b-ne0.true);
-      refused-exactly-if-some-input-is-fixed-oppositely = (λ _. opposed_from a b c.if-a-b-ne0.true, λ _. refl);
-      has-the-fixed-cells-of-both = refl;
-      extends-both = tt;
-      filled-by-what-fills-both = tt;
+      merged_exactly_if_no_bit_clashes = sym (ne_eqb _ 0 c.if-a-b-ne0.true);
+      refused_exactly_if_some_input_is_fixed_oppositely = (λ _. opposed_from a b c.if-a-b-ne0.true, λ _. refl);
+      has_the_fixed_cells_of_both = refl;
+      extends_both = tt;
+      filled_by_what_fills_both = tt;
     }
 
-pub invariant-of-result : goal.invariant-of-result
-invariant-of-result c =
+pub invariant_of-result : goal.invariant_of-result
+invariant_of-result c =
     let a = c.args.a.now in
     let b = c.args.b.now in
     (union_is_zero a.care a.value b.care b.value a.free_is_zero b.free_is_zero, tt)
@@ -28,9 +28,9 @@ returns c =
     let a = c.args.a.now in
     let b = c.args.b.now in
     record {
-      merged-exactly-if-no-bit-clashes = sym (eq-eqb _ 0 c.if-a-b-ne0.false);
-      refused-exactly-if-some-input-is-fixed-oppositely = (λ t. absurd (false≢true t), λ o. absurd (never_opposed (cells_of a) (cells_of b) c.if-a-b-ne0.false o));
-      has-the-fixed-cells-of-both = refl;
-      extends-both = union_extends (cells_of a) (cells_of b) a.free_is_zero b.free_is_zero c.if-a-b-ne0.false;
-      filled-by-what-fills-both = union_filled (cells_of a) (cells_of b) a.free_is_zero b.free_is_zero c.if-a-b-ne0.false;
+      merged_exactly_if_no_bit_clashes = sym (eq-eqb _ 0 c.if-a-b-ne0.false);
+      refused_exactly_if_some_input_is_fixed_oppositely = (λ t. absurd (false≢true t), λ o. absurd (never_opposed (cells_of a) (cells_of b) c.if-a-b-ne0.false o));
+      has_the_fixed_cells_of_both = refl;
+      extends_both = union_extends (cells_of a) (cells_of b) a.free_is_zero b.free_is_zero c.if-a-b-ne0.false;
+      filled_by_what_fills_both = union_filled (cells_of a) (cells_of b) a.free_is_zero b.free_is_zero c.if-a-b-ne0.false;
     }

@@ -6,7 +6,7 @@ use Rattle.vectors.proofs.numbers.below.Goals as goal
 
 pub returns-then-place-ge32 : goal.returns-then-place-ge32
 returns-then-place-ge32 c = record {
-  is-below-the-power = le-leb 32 c.args.place (omega arith) ∙ below_wide c.args.number 32 c.args.place (omega arith) (omega arith);
+  is_below_the_power = le-leb 32 c.args.place (omega arith) ∙ below_wide c.args.number 32 c.args.place (omega arith) (omega arith);
 }
 
 pub returns-else-place-ge32 : goal.returns-else-place-ge32

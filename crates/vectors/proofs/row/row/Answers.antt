@@ -15,33 +15,33 @@ returns-then-bytes-inputs c =
     let either = c.then-bytes-inputs.either in
     let e : false ≡ is_row c.args.inputs c.args.bytes.now = grind (arith, nat_tests) in
     record {
-      read-exactly-if-a-row = e;
-      every-row-of-cells-is-read = λ cells l h m. e ∙ row_of_cells c.args.inputs c.args.bytes.now cells l h m;
-      a-printed-vector-reads-back = λ v _ h m. false≢true (e ∙ row_of_cells c.args.inputs c.args.bytes.now (start c.args.inputs v) (length_cells v 0 c.args.inputs) h m);
-      prints-back = tt;
-      is-in-form = tt;
+      read_exactly_if_a_row = e;
+      every_row_of_cells_is_read = λ cells l h m. e ∙ row_of_cells c.args.inputs c.args.bytes.now cells l h m;
+      a_printed_vector_reads_back = λ v _ h m. false≢true (e ∙ row_of_cells c.args.inputs c.args.bytes.now (start c.args.inputs v) (length_cells v 0 c.args.inputs) h m);
+      prints_back = tt;
+      is_in_form = tt;
     }
 
-pub returns-in-err-cell : goal.returns-in-err-cell
-returns-in-err-cell c =
-    let e : false ≡ is_row c.args.inputs c.args.bytes.now = no_row_by_byte c.args.inputs c.args.bytes.now c.loop-j.j (omega arith) c.in-err-cell.ensures.a-cells-character c.loop-j.invariant.2 in
-    rw c.from-residual.ensures record {
-      read-exactly-if-a-row = e;
-      every-row-of-cells-is-read = λ cells l h m. e ∙ row_of_cells c.args.inputs c.args.bytes.now cells l h m;
-      a-printed-vector-reads-back = λ v _ h m. false≢true (e ∙ row_of_cells c.args.inputs c.args.bytes.now (start c.args.inputs v) (length_cells v 0 c.args.inputs) h m);
-      prints-back = tt;
-      is-in-form = tt;
+pub returns-in_err-cell : goal.returns-in_err-cell
+returns-in_err-cell c =
+    let e : false ≡ is_row c.args.inputs c.args.bytes.now = no_row_by_byte c.args.inputs c.args.bytes.now c.loop-j.j (omega arith) c.in_err-cell.ensures.a_cells_character c.loop-j.invariant.2 in
+    rw c.from_residual.ensures record {
+      read_exactly_if_a_row = e;
+      every_row_of_cells_is_read = λ cells l h m. e ∙ row_of_cells c.args.inputs c.args.bytes.now cells l h m;
+      a_printed_vector_reads_back = λ v _ h m. false≢true (e ∙ row_of_cells c.args.inputs c.args.bytes.now (start c.args.inputs v) (length_cells v 0 c.args.inputs) h m);
+      prints_back = tt;
+      is_in_form = tt;
     }
 
 pub loop-j-preserved : goal.loop-j-preserved
 loop-j-preserved c =
     let h : c.loop-j.j < length c.args.bytes.now = omega arith in
-    let r = read_more c.loop-j.care c.loop-j.value c.loop-j.j c.fixed.result c.level.result c.in-ok-cell.cell c.args.bytes.now
-    (omega arith) h c.fixed.ensures.is-one-if-fixed c.level.ensures.is-the-cells-bit c.in-ok-cell.ensures.has-that-character c.loop-j.invariant.0 c.loop-j.invariant.1 in
-    (r.0, r.1, characters_more c.args.bytes.now c.loop-j.j h c.in-ok-cell.ensures.a-cells-character c.loop-j.invariant.2)
+    let r = read_more c.loop-j.care c.loop-j.value c.loop-j.j c.fixed.result c.level.result c.in_ok-cell.cell c.args.bytes.now
+    (omega arith) h c.fixed.ensures.is_one_if_fixed c.level.ensures.is_the_cells_bit c.in_ok-cell.ensures.has_that_character c.loop-j.invariant.0 c.loop-j.invariant.1 in
+    (r.0, r.1, characters_more c.args.bytes.now c.loop-j.j h c.in_ok-cell.ensures.a_cells_character c.loop-j.invariant.2)
 
-pub invariant-of-result : goal.invariant-of-result
-invariant-of-result c = (free_from_bits c.loop-j.care c.loop-j.value c.loop-j.invariant.0.free_is_zero, tt)
+pub invariant_of-result : goal.invariant_of-result
+invariant_of-result c = (free_from_bits c.loop-j.care c.loop-j.value c.loop-j.invariant.0.free_is_zero, tt)
 
 pub returns : goal.returns
 returns c =
@@ -51,9 +51,9 @@ returns c =
     sym (ap (λ (k : ℕ). printed k w) all) ∙ c.loop-j.invariant.1 ∙ take_all c.loop-j.j c.args.bytes.now (omega arith) in
     let form : InForm c.args.inputs w = subst (λ (k : ℕ). InForm k w) all c.loop-j.invariant.0 in
     record {
-      read-exactly-if-a-row = a_row c.args.inputs c.args.bytes.now c.loop-j.j (omega arith) (omega arith) (omega arith) c.loop-j.invariant.2;
-      every-row-of-cells-is-read = λ _ _ _ _. refl;
-      a-printed-vector-reads-back = λ v f _ m. same_from_print c.args.inputs w v form f (back ∙ sym m);
-      prints-back = back;
-      is-in-form = form;
+      read_exactly_if_a_row = a_row c.args.inputs c.args.bytes.now c.loop-j.j (omega arith) (omega arith) (omega arith) c.loop-j.invariant.2;
+      every_row_of_cells_is_read = λ _ _ _ _. refl;
+      a_printed_vector_reads_back = λ v f _ m. same_from_print c.args.inputs w v form f (back ∙ sym m);
+      prints_back = back;
+      is_in_form = form;
     }

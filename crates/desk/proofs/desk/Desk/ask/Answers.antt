@@ -5,21 +5,21 @@ use Rattle.requests.specs.declared.reply.Reply.{Reply}
 use Rattle.desk.proofs.Keeping.{one_reply, run_kept}
 use Rattle.desk.proofs.desk.Desk.ask.Goals as goal
 
-pub invariant-of-self : goal.invariant-of-self
-invariant-of-self g c = (
-  run_kept vec_items c.args.self.now.job c.run.new.job _ _ c.args.request c.run.result c.run.ensures.the-law-of-jobs-holds-over-every-history
-      c.run.ensures.without-room-the-job-stays c.run.ensures.without-room-the-tickets-stay c.args.self.now.each_taken_fault_has_one_ticket,
+pub invariant_of-self : goal.invariant_of-self
+invariant_of-self g c = (
+  run_kept vec_items c.args.self.now.job c.run.new.job _ _ c.args.request c.run.result c.run.ensures.the_law_of_jobs_holds_over_every_history
+      c.run.ensures.without_room_the_job_stays c.run.ensures.without_room_the_tickets_stay c.args.self.now.each_taken_fault_has_one_ticket,
   tt,
 )
 
 pub returns : goal.returns
 returns g c =
-    let runs = c.in-ok-replies.ensures.the-law-of-jobs-holds-over-every-history in
+    let runs = c.in_ok-replies.ensures.the_law_of_jobs_holds_over_every_history in
     record {
-      the-law-of-jobs-holds-over-every-history =
+      the_law_of_jobs_holds_over_every_history =
           subst (λ (rs : List Reply). Runs (card_held c.args.self.now.job) (held c.args.self.now.job) (vec_items c.args.self.now.tickets) (c.args.request ∷ []) rs (held c.run.new.job) (vec_items c.run.new.wallet))
-          (one_reply (vec_items c.in-ok-replies.replies) c.index.result.now runs.every_request_has_its_reply c.index.ensures) runs;
-      the-card-stays = c.run.ensures.the-card-stays;
-      without-room-the-job-stays = tt;
-      without-room-the-tickets-stay = tt;
+          (one_reply (vec_items c.in_ok-replies.replies) c.index.result.now runs.every_request_has_its_reply c.index.ensures) runs;
+      the_card_stays = c.run.ensures.the_card_stays;
+      without_room_the_job_stays = tt;
+      without_room_the_tickets_stay = tt;
     }

@@ -2,5 +2,5 @@ use Rattle.card.specs.Views.{netlist_of}
 use Rattle.desk.proofs.Keeping.{kept_new}
 use Rattle.desk.proofs.desk.Desk.open.Goals as goal
 
-pub invariant-of-result : goal.invariant-of-result
-invariant-of-result c = (kept_new (netlist_of c.args.card) _ _ c.in-ok-job.ensures.every-fault-is-open-none-taken-and-no-vector-listed c.new-tickets.ensures.items, tt)
+pub invariant_of-result : goal.invariant_of-result
+invariant_of-result c = (kept_new (netlist_of c.args.card) _ _ c.in_ok-job.ensures.every_fault_is_open_none_taken_and_no_vector_listed c.new-tickets.ensures.items, tt)

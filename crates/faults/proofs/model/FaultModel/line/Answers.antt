@@ -12,8 +12,8 @@ returns-then-site-nets-2 c =
     let site : ℕ = c.args.fault / 2 in
     let e = ap length m.lists_the_branches in
     let below : site - c.nets-nets.result < length (vec_items m.branches) = omega arith in
-    let l = branch_read (netlist_of m.card) (vec_items m.branches) site c.nets-nets.result c.index-branch.result.now m.lists_the_branches c.nets-nets.ensures.counts-the-nets c.if-site-nets.false below (search rules) in
+    let l = branch_read (netlist_of m.card) (vec_items m.branches) site c.nets-nets.result c.index-branch.result.now m.lists_the_branches c.nets-nets.ensures.counts_the_nets c.if-site-nets.false below (search rules) in
     record {
-      refused-exactly-if-there-is-no-such-fault = grind (arith, nat_tests, e);
+      refused_exactly_if_there_is_no_such_fault = grind (arith, nat_tests, e);
       is_the_faults_line = ap (stuck_at (eqb (c.args.fault % 2) 1)) l;
     }

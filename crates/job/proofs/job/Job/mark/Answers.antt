@@ -11,7 +11,7 @@ use Rattle.job.proofs.Reaching.{stands}
 use Rattle.job.proofs.job.Job.mark.Goals as goal
 
 pub returns-then-fault-len : goal.returns-then-fault-len
-returns-then-fault-len c = record { shows-the-mark-or-that-there-is-no-such-fault = search rules; the-law-of-jobs-holds = stands c.args.self.now.table c.args.self.now.reached }
+returns-then-fault-len c = record { shows_the_mark_or_that_there_is_no_such_fault = search rules; the_law_of_jobs_holds = stands c.args.self.now.table c.args.self.now.reached }
 
 pub returns : goal.returns
 returns c =
@@ -24,6 +24,6 @@ returns c =
     let k = get_or_read (vec_items t.taken) f c.index-2.result.now noted c.index-2.ensures false in
     let shown : Marked = record { mark = get_or (vec_items t.marks) f Open; taken = get_or (vec_items t.taken) f false } in
     record {
-      shows-the-mark-or-that-there-is-no-such-fault = (λ i. Ok (record { mark = m i; taken = k i })) ∙ ap (λ (b : Bool). cond b (Ok shown) (Err NoSuchFault)) (sym (lt-ltb f (fault_count (card_of t)) lt));
-      the-law-of-jobs-holds = stands t c.args.self.now.reached;
+      shows_the_mark_or_that_there_is_no_such_fault = (λ i. Ok (record { mark = m i; taken = k i })) ∙ ap (λ (b : Bool). cond b (Ok shown) (Err NoSuchFault)) (sym (lt-ltb f (fault_count (card_of t)) lt));
+      the_law_of_jobs_holds = stands t c.args.self.now.reached;
     }

@@ -3,4 +3,4 @@ use Rattle.job.proofs.Reaching.{stands}
 use Rattle.job.proofs.job.Job.marks.Goals as goal
 
 pub returns : goal.returns
-returns c = record { are-the-marks = search rules; the-law-of-jobs-holds = stands c.args.self.now.table c.args.self.now.reached }
+returns c = record { are_the_marks = search rules; the_law_of_jobs_holds = stands c.args.self.now.table c.args.self.now.reached }

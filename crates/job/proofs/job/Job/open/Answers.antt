@@ -1,5 +1,5 @@
 use Rattle.history.proofs.Reaching.{reached_new}
 use Rattle.job.proofs.job.Job.open.Goals as goal
 
-pub invariant-of-result : goal.invariant-of-result
-invariant-of-result c = (reached_new _ _ _ c.in-ok-table.ensures.is-new c.in-ok-table.ensures.holds-the-card, tt)
+pub invariant_of-result : goal.invariant_of-result
+invariant_of-result c = (reached_new _ _ _ c.in_ok-table.ensures.is_new c.in_ok-table.ensures.holds_the_card, tt)

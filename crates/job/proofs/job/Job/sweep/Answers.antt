@@ -3,14 +3,14 @@ use Rattle.job.proofs.Reaching.{reached_by, stands}
 use Rattle.job.specs.Tables.{card_of, view_of}
 use Rattle.job.proofs.job.Job.sweep.Goals as goal
 
-pub invariant-of-self : goal.invariant-of-self
-invariant-of-self c = (reached_by c.args.self.now.table c.sweep.new.self c.sweep.ensures.card-stays c.args.self.now.reached (swept c.args.vector c.sweep.result) (c.sweep.ensures.granted-or-refused, c.sweep.ensures.swept-or-unchanged), tt)
+pub invariant_of-self : goal.invariant_of-self
+invariant_of-self c = (reached_by c.args.self.now.table c.sweep.new.self c.sweep.ensures.card_stays c.args.self.now.reached (swept c.args.vector c.sweep.result) (c.sweep.ensures.granted_or_refused, c.sweep.ensures.swept_or_unchanged), tt)
 
 pub returns : goal.returns
 returns c = record {
-  answers-how-many-or-that-there-is-no-such-vector = c.sweep.ensures.granted-or-refused;
-  every-caught-fault-is-marked-or-nothing-changes = c.sweep.ensures.swept-or-unchanged;
-  is-a-step-of-the-history = (c.sweep.ensures.granted-or-refused, c.sweep.ensures.swept-or-unchanged);
-  the-card-stays = c.sweep.ensures.card-stays;
-  the-law-of-jobs-holds = stands c.sweep.new.self (reached_by c.args.self.now.table c.sweep.new.self c.sweep.ensures.card-stays c.args.self.now.reached (swept c.args.vector c.sweep.result) (c.sweep.ensures.granted-or-refused, c.sweep.ensures.swept-or-unchanged));
+  answers_how_many_or_that_there_is_no_such_vector = c.sweep.ensures.granted_or_refused;
+  every_caught_fault_is_marked_or_nothing_changes = c.sweep.ensures.swept_or_unchanged;
+  is_a_step_of_the_history = (c.sweep.ensures.granted_or_refused, c.sweep.ensures.swept_or_unchanged);
+  the_card_stays = c.sweep.ensures.card_stays;
+  the_law_of_jobs_holds = stands c.sweep.new.self (reached_by c.args.self.now.table c.sweep.new.self c.sweep.ensures.card_stays c.args.self.now.reached (swept c.args.vector c.sweep.result) (c.sweep.ensures.granted_or_refused, c.sweep.ensures.swept_or_unchanged));
 }

@@ -16,8 +16,8 @@ pub returns-then-number-len : goal.returns-then-number-len
 returns-then-number-len c =
     let t : Table = c.args.self.now.table in
     record {
-      shows-the-vector-with-its-outputs-or-that-there-is-none = (λ lt. omega (arith, lt, c.if-number-len.true, c.len.ensures, t.vectors.ok.0, length-map (vec_items t.vectors) cells_of), refl);
-      the-law-of-jobs-holds = stands t c.args.self.now.reached;
+      shows_the_vector_with_its_outputs_or_that_there_is_none = (λ lt. omega (arith, lt, c.if-number-len.true, c.len.ensures, t.vectors.ok.0, length-map (vec_items t.vectors) cells_of), refl);
+      the_law_of_jobs_holds = stands t c.args.self.now.reached;
     }
 
 pub returns : goal.returns
@@ -27,11 +27,11 @@ returns c =
     let lt : c.args.number < length (view_of t).vectors = omega (arith, listed, length-map (vec_items t.vectors) cells_of) in
     let is = cells_listed (vec_items t.vectors) c.args.number c.index.result.now listed c.index.ensures in
     record {
-      shows-the-vector-with-its-outputs-or-that-there-is-none = (
+      shows_the_vector_with_its_outputs_or_that_there_is_none = (
         lt,
         is,
-        subst (λ (k : Netlist). ShowsOutputs k (vector_at (view_of t) c.args.number) (cells_of c.outputs-of-outputs.result)) c.card.ensures.has-the-same-netlist
-            (subst (λ (x : Cells). ShowsOutputs (netlist_of c.card.result.now) x (cells_of c.outputs-of-outputs.result)) is c.outputs-of-outputs.ensures.shows-the-outputs),
+        subst (λ (k : Netlist). ShowsOutputs k (vector_at (view_of t) c.args.number) (cells_of c.outputs_of-outputs.result)) c.card.ensures.has_the_same_netlist
+            (subst (λ (x : Cells). ShowsOutputs (netlist_of c.card.result.now) x (cells_of c.outputs_of-outputs.result)) is c.outputs_of-outputs.ensures.shows_the_outputs),
       );
-      the-law-of-jobs-holds = stands t c.args.self.now.reached;
+      the_law_of_jobs_holds = stands t c.args.self.now.reached;
     }

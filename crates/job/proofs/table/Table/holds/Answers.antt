@@ -6,4 +6,4 @@ use Rattle.job.proofs.table.Table.holds.Goals as goal
 pub returns-else-fault-len : goal.returns-else-fault-len
 returns-else-fault-len c =
     let past : length (vec_items c.args.self.now.taken) ≤ c.args.fault = omega arith in
-    record { tells-whether-it-is-taken = sym (get_or_past _ c.args.fault false past); a-taken-fault-has-a-flag = λ e. absurd (false≢true e) }
+    record { tells_whether_it_is_taken = sym (get_or_past _ c.args.fault false past); a_taken_fault_has_a_flag = λ e. absurd (false≢true e) }

@@ -7,4 +7,4 @@ use Rattle.job.proofs.table.Table.is_open.Goals as goal
 pub returns-else-fault-len : goal.returns-else-fault-len
 returns-else-fault-len c =
     let past : length (vec_items c.args.self.now.marks) ≤ c.args.fault = omega arith in
-    record { tells-whether-it-is-open = ap is_open (sym (get_or_past _ c.args.fault Open past)) }
+    record { tells_whether_it_is_open = ap is_open (sym (get_or_past _ c.args.fault Open past)) }

@@ -24,12 +24,12 @@ returns-then-into-count c =
     let t : Table = c.args.self.now in
     let n = counted t c.len-count.result c.len-count.ensures in
     record {
-      granted-or-refused = ⊎_elim
+      granted_or_refused = ⊎_elim
           (λ (le : c.len-count.result ≤ c.args.into). first_missing (view_of t) c.args.into c.args.gone (omega (arith, le, n)))
           (λ (p : (c.args.into < c.len-count.result) × (c.len-count.result ≤ c.args.gone)). second_missing (view_of t) c.args.into c.args.gone (omega (arith, p.1, n)))
           c.then-into-count.either;
-      merged-or-unchanged = refl;
-      card-stays = refl;
+      merged_or_unchanged = refl;
+      card_stays = refl;
     }
 
 pub returns-then-into-gone : goal.returns-then-into-gone
@@ -37,29 +37,29 @@ returns-then-into-gone c =
     let t : Table = c.args.self.now in
     let n = counted t c.len-count.result c.len-count.ensures in
     record {
-      granted-or-refused = one_vector (view_of t) c.args.into c.args.gone (omega (arith, c.if-into-count.false, n)) (omega (arith, c.if-gone-count.false, n)) c.if-into-gone.true;
-      merged-or-unchanged = refl;
-      card-stays = refl;
+      granted_or_refused = one_vector (view_of t) c.args.into c.args.gone (omega (arith, c.if-into-count.false, n)) (omega (arith, c.if-gone-count.false, n)) c.if-into-gone.true;
+      merged_or_unchanged = refl;
+      card_stays = refl;
     }
 
 -- the cells of the two vectors that were read
 listed : (t : Table) (n i : ℕ) (x : Vector) → n ≡ t.vectors.len → i < n → x ≡ get_or (vec_items t.vectors) i x → cells_of x ≡ vector_at (view_of t) i
 listed t n i x e lt is = cells_listed (vec_items t.vectors) i x (omega (arith, lt, e, t.vectors.ok.0)) is
 
-pub returns-in-err-both : goal.returns-in-err-both
-returns-in-err-both c =
+pub returns-in_err-both : goal.returns-in_err-both
+returns-in_err-both c =
     let t : Table = c.args.self.now in
     let n = counted t c.len-count.result c.len-count.ensures in
     let a = listed t c.len-count.result c.args.into c.index.result.now c.len-count.ensures c.if-into-count.false c.index.ensures in
     let b = listed t c.len-count.result c.args.gone c.index-2.result.now c.len-count.ensures c.if-gone-count.false c.index-2.ensures in
     let unfit : false ≡ mergeable (vector_at (view_of t) c.args.into) (vector_at (view_of t) c.args.gone) =
-    c.in-err-both.ensures.merged-exactly-if-no-bit-clashes ∙ ap (λ (x : Cells). mergeable x (cells_of c.index-2.result.now)) a ∙ ap (mergeable (vector_at (view_of t) c.args.into)) b in
+    c.in_err-both.ensures.merged_exactly_if_no_bit_clashes ∙ ap (λ (x : Cells). mergeable x (cells_of c.index-2.result.now)) a ∙ ap (mergeable (vector_at (view_of t) c.args.into)) b in
     let told = two_vectors (view_of t) c.args.into c.args.gone (omega (arith, c.if-into-count.false, n)) (omega (arith, c.if-gone-count.false, n)) c.if-into-gone.false false unfit in
-    let (why, is, opposite) = err_from_is_err_and c.from-residual.result c.from-residual.ensures.1 in
+    let (why, is, opposite) = err_from_is_err_and c.from_residual.result c.from_residual.ensures.1 in
     record {
-      granted-or-refused = ap granted is ∙ ap Err opposite ∙ sym told;
-      merged-or-unchanged = ap (λ (r : Result (Unit {0}) MergeRefusal). cond (is_ok r) (merging (view_of t) c.args.into c.args.gone) (view_of t)) (sym is);
-      card-stays = refl;
+      granted_or_refused = ap granted is ∙ ap Err opposite ∙ sym told;
+      merged_or_unchanged = ap (λ (r : Result (Unit {0}) MergeRefusal). cond (is_ok r) (merging (view_of t) c.args.into c.args.gone) (view_of t)) (sym is);
+      card_stays = refl;
     }
 
 pub returns : goal.returns
@@ -69,11 +69,11 @@ returns c =
     let a = listed t c.len-count.result c.args.into c.index.result.now c.len-count.ensures c.if-into-count.false c.index.ensures in
     let b = listed t c.len-count.result c.args.gone c.index-2.result.now c.len-count.ensures c.if-gone-count.false c.index-2.ensures in
     let fit : true ≡ mergeable (vector_at (view_of t) c.args.into) (vector_at (view_of t) c.args.gone) =
-    c.in-ok-both.ensures.merged-exactly-if-no-bit-clashes ∙ ap (λ (x : Cells). mergeable x (cells_of c.index-2.result.now)) a ∙ ap (mergeable (vector_at (view_of t) c.args.into)) b in
-    let union-is : cells_of c.in-ok-both.both ≡ union (vector_at (view_of t) c.args.into) (vector_at (view_of t) c.args.gone) =
-    c.in-ok-both.ensures.has-the-fixed-cells-of-both ∙ ap (λ (x : Cells). union x (cells_of c.index-2.result.now)) a ∙ ap (union (vector_at (view_of t) c.args.into)) b in
+    c.in_ok-both.ensures.merged_exactly_if_no_bit_clashes ∙ ap (λ (x : Cells). mergeable x (cells_of c.index-2.result.now)) a ∙ ap (mergeable (vector_at (view_of t) c.args.into)) b in
+    let union-is : cells_of c.in_ok-both.both ≡ union (vector_at (view_of t) c.args.into) (vector_at (view_of t) c.args.gone) =
+    c.in_ok-both.ensures.has_the_fixed_cells_of_both ∙ ap (λ (x : Cells). union x (cells_of c.index-2.result.now)) a ∙ ap (union (vector_at (view_of t) c.args.into)) b in
     record {
-      granted-or-refused = sym (two_vectors (view_of t) c.args.into c.args.gone (omega (arith, c.if-into-count.false, n)) (omega (arith, c.if-gone-count.false, n)) c.if-into-gone.false true fit);
-      merged-or-unchanged = merged_view _ _ _ _ _ c.args.into c.args.gone c.in-ok-both.both c.rename-all.ensures.renames-each c.remove-gone.ensures.items union-is;
-      card-stays = refl;
+      granted_or_refused = sym (two_vectors (view_of t) c.args.into c.args.gone (omega (arith, c.if-into-count.false, n)) (omega (arith, c.if-gone-count.false, n)) c.if-into-gone.false true fit);
+      merged_or_unchanged = merged_view _ _ _ _ _ c.args.into c.args.gone c.in_ok-both.both c.rename_all.ensures.renames_each c.remove-gone.ensures.items union-is;
+      card_stays = refl;
     }

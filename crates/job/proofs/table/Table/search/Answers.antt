@@ -26,9 +26,9 @@ returns-then-len-ge-MOST g c =
     let t = c.args.self.now in
     let full : 512 ≤ length (view_of t).vectors = omega (arith, c.if-len-ge-MOST.true, c.len.ensures, t.vectors.ok.0, length-map (vec_items t.vectors) cells_of) in
     record {
-      answered = (full_answer (view_of t) _ _ c.fault-fault.ensures.is-the-tickets-fault c.if-not-holds.ensures.tells-whether-it-is-taken c.if-not-is-open.ensures.tells-whether-it-is-open full, refl, refl);
-      the-solver-answered-in-its-own-way = tt;
-      card-stays = refl;
+      answered = (full_answer (view_of t) _ _ c.fault-fault.ensures.is_the_tickets_fault c.if-not-holds.ensures.tells_whether_it_is_taken c.if-not-is_open.ensures.tells_whether_it_is_open full, refl, refl);
+      the_solver_answered_in_its_own_way = tt;
+      card_stays = refl;
     }
 
 pub returns : goal.returns
@@ -36,12 +36,12 @@ returns g c =
     let t = c.args.self.now in
     let room : length (view_of t).vectors < 512 = omega (arith, c.if-len-ge-MOST.false, c.len.ensures, t.vectors.ok.0, length-map (vec_items t.vectors) cells_of) in
     record {
-      answered = searched_answer (view_of t) _ _ c.fault-fault.ensures.is-the-tickets-fault c.if-not-holds.ensures.tells-whether-it-is-taken c.if-not-is-open.ensures.tells-whether-it-is-open
+      answered = searched_answer (view_of t) _ _ c.fault-fault.ensures.is_the_tickets_fault c.if-not-holds.ensures.tells_whether_it_is_taken c.if-not-is_open.ensures.tells_whether_it_is_open
           (card_of t) _ c.args.budget c.ask-asked.result.solved _ _ c.in-Ok.stuck (finding_of c.ask-asked.result.outcome) room
-          c.in-Ok.ensures.is_the_faults_line c.card.ensures.has-the-same-netlist c.ask-asked.ensures.the-solver-was-asked-the-formula-and-answered-this c.enter.ensures.enters-what-was-found;
-      the-solver-answered-in-its-own-way = λ s line.
-          own g (card_of t) _ c.in-Ok.stuck s c.args.budget c.ask-asked.result.solved _ c.card.ensures.has-the-same-netlist
-          (one_line (card_of t) _ _ c.fault-fault.ensures.is-the-tickets-fault c.in-Ok.stuck s c.in-Ok.ensures.is_the_faults_line line)
-          c.ask-asked.ensures.the-solver-answered-in-its-own-way;
-      card-stays = c.enter.ensures.card-stays;
+          c.in-Ok.ensures.is_the_faults_line c.card.ensures.has_the_same_netlist c.ask-asked.ensures.the_solver_was_asked_the_formula_and_answered_this c.enter.ensures.enters_what_was_found;
+      the_solver_answered_in_its_own_way = λ s line.
+          own g (card_of t) _ c.in-Ok.stuck s c.args.budget c.ask-asked.result.solved _ c.card.ensures.has_the_same_netlist
+          (one_line (card_of t) _ _ c.fault-fault.ensures.is_the_tickets_fault c.in-Ok.stuck s c.in-Ok.ensures.is_the_faults_line line)
+          c.ask-asked.ensures.the_solver_answered_in_its_own_way;
+      card_stays = c.enter.ensures.card_stays;
     }

@@ -12,12 +12,12 @@ returns t c =
     let p = filled_of c.args.self.now in
     let fits : n < 2 ^ 64 = omega arith in
     let reads = decimal_is_IsNumeral n fits in
-    let put = c.byte.ensures.puts-the-byte in
+    let put = c.byte.ensures.puts_the_byte in
     let digits : filled_of c.byte.new.self ≡ putting (decimal n) p =
     elim c.if-number-ge10.branch [
       | then-number-ge10 w ↦
           let ten : 10 ≤ n = omega arith in
-          let more = put_then (decimal (n / 10)) ((48 + n % 10) ∷ []) p (filled_of c.if-number-ge10.self) (filled_of c.byte.new.self) (ap filled_of w.self-is ∙ w.number.ensures.puts-its-digits) put in
+          let more = put_then (decimal (n / 10)) ((48 + n % 10) ∷ []) p (filled_of c.if-number-ge10.self) (filled_of c.byte.new.self) (ap filled_of w.self-is ∙ w.number.ensures.puts_its_digits) put in
           more ∙ ap (λ z. putting z p) (sym (decimal_step n ten fits))
       | else-number-ge10 w ↦
           let ten : n < 10 = omega arith in
@@ -26,12 +26,12 @@ returns t c =
     ] in
     let same : lent c.byte.new.self ≡ lent c.args.self.now =
     elim c.if-number-ge10.branch [
-      | then-number-ge10 w ↦ c.byte.ensures.holds-the-lent-buffer ∙ ap lent w.self-is ∙ w.number.ensures.holds-the-lent-buffer
-      | else-number-ge10 w ↦ c.byte.ensures.holds-the-lent-buffer ∙ ap lent w.self-is
+      | then-number-ge10 w ↦ c.byte.ensures.holds_the_lent_buffer ∙ ap lent w.self-is ∙ w.number.ensures.holds_the_lent_buffer
+      | else-number-ge10 w ↦ c.byte.ensures.holds_the_lent_buffer ∙ ap lent w.self-is
     ] in
     record {
-      puts-its-digits = digits;
-      the-digits-read-back = (reads.0, reads.1);
-      no-zero-leads = λ h. first_decimal n h fits;
-      holds-the-lent-buffer = same;
+      puts_its_digits = digits;
+      the_digits_read_back = (reads.0, reads.1);
+      no_zero_leads = λ h. first_decimal n h fits;
+      holds_the_lent_buffer = same;
     }

@@ -5,9 +5,9 @@ use Rattle.page.proofs.buffer.Page.byte.Goals as goal
 pub returns-then-self : goal.returns-then-self
 returns-then-self c =
     let p = c.args.self.now in
-    record { puts-the-byte = byte_put p.buffer.now p.len c.args.byte p.whole (omega arith); holds-the-lent-buffer = refl }
+    record { puts_the_byte = byte_put p.buffer.now p.len c.args.byte p.whole (omega arith); holds_the_lent_buffer = refl }
 
 pub returns-else-self : goal.returns-else-self
 returns-else-self c =
     let p = c.args.self.now in
-    record { puts-the-byte = byte_cut p.buffer.now p.len c.args.byte p.whole (omega arith); holds-the-lent-buffer = refl }
+    record { puts_the_byte = byte_cut p.buffer.now p.len c.args.byte p.whole (omega arith); holds_the_lent_buffer = refl }

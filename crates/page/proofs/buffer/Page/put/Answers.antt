@@ -13,15 +13,15 @@ loop-byte-preserved c =
     let xs = c.args.bytes.now in
     let i = c.loop-byte.byte-index in
     let p = filled_of c.args.self.now in (
-      put_then (take i xs) (get_or xs i 0 ∷ []) p (filled_of c.loop-byte.self) (filled_of c.byte.new.self) c.loop-byte.invariant.0 c.byte.ensures.puts-the-byte
+      put_then (take i xs) (get_or xs i 0 ∷ []) p (filled_of c.loop-byte.self) (filled_of c.byte.new.self) c.loop-byte.invariant.0 c.byte.ensures.puts_the_byte
           ∙ ap (λ z. putting z p) (sym (take_more xs i 0 c.loop-byte-test.true)),
-      c.byte.ensures.holds-the-lent-buffer ∙ c.loop-byte.invariant.1,
+      c.byte.ensures.holds_the_lent_buffer ∙ c.loop-byte.invariant.1,
     )
 
 pub returns : goal.returns
 returns c =
     let xs = c.args.bytes.now in
     record {
-      puts-the-bytes = c.loop-byte.invariant.0 ∙ ap (λ z. putting z (filled_of c.args.self.now)) (take_all c.loop-byte.byte-index xs c.loop-byte-test.false);
-      holds-the-lent-buffer = c.loop-byte.invariant.1;
+      puts_the_bytes = c.loop-byte.invariant.0 ∙ ap (λ z. putting z (filled_of c.args.self.now)) (take_all c.loop-byte.byte-index xs c.loop-byte-test.false);
+      holds_the_lent_buffer = c.loop-byte.invariant.1;
     }

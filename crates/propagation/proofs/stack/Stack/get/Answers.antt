@@ -5,4 +5,4 @@ use Rattle.propagation.proofs.stack.Stack.get.Goals as goal
 pub returns : goal.returns
 returns g c =
     let s = c.args.self.now in
-    record { is-the-entry-there = c.index-entries-i.is ∙ sym (get_or-take s.len s.entries.now c.args.i c.index-entries-i.result c.requires.inside) }
+    record { is_the_entry_there = c.index-entries-i.is ∙ sym (get_or-take s.len s.entries.now c.args.i c.index-entries-i.result c.requires.inside) }

@@ -3,8 +3,8 @@ use Rattle.std.proofs.lemmas.List.{take_more_set}
 use Rattle.reading.proofs.Adding.{roomy}
 use Rattle.reading.proofs.draft.Draft.add.Goals as goal
 
-pub invariant-of-self : goal.invariant-of-self
-invariant-of-self c =
+pub invariant_of-self : goal.invariant_of-self
+invariant_of-self c =
     let d = c.args.self.now in
     let r = roomy d c.args.command c.in-AddInput.is c.requires.not_late c.requires.not_overfull (search rules) in
     (r.0, (r.1, (d.outputs_fit, tt)))

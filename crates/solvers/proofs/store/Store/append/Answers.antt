@@ -15,7 +15,7 @@ returns-then-clause-len c =
     let m = model_of s in
     let x = c.args.clause.now in
     let u = places_used (vec_items s.literals) (vec_len s.literals) (vec_len s.ends) (vec_items s.ends) s.literals.ok.0 s.ends.ok.0 s.ended in
-    let a : all_in_range s.variables x ≡ true = sym c.if-not-all-in-range.ensures.tells-literals-in-range in
+    let a : all_in_range s.variables x ≡ true = sym c.if-not-all_in_range.ensures.tells_literals_in_range in
     let r : room_for m x ≡ false = lt-leb _ _ (omega (arith, u, c.len.ensures, c.len-2.ensures, c.if-clause-len.true)) in
     let n : appendable m x ≡ false = ap₂ ◌&&◌ a r in
     record {
@@ -24,20 +24,20 @@ returns-then-clause-len c =
       state = if_false (appendable m x) (longer m x) m n;
     }
 
-pub invariant-of-self : goal.invariant-of-self
-invariant-of-self c =
+pub invariant_of-self : goal.invariant_of-self
+invariant_of-self c =
     let s = c.args.self.now in
     let x = c.args.clause.now in
-    let k : is_ok c.extend-from-slice.result ≡ true = c.extend-from-slice.ensures.succeeds (omega (arith, c.len.ensures, c.len-2.ensures, c.if-clause-len.false, s.few, s.room_for_literals)) in
-    let l : vec_len c.extend-from-slice.new.self ≡ vec_len s.literals + length x = c.extend-from-slice.ensures.len ∙ sym (if_true (is_ok c.extend-from-slice.result) _ _ k) in
-    let p = c.push-reserved.ensures in (
+    let k : is_ok c.extend_from_slice.result ≡ true = c.extend_from_slice.ensures.succeeds (omega (arith, c.len.ensures, c.len-2.ensures, c.if-clause-len.false, s.few, s.room_for_literals)) in
+    let l : vec_len c.extend_from_slice.new.self ≡ vec_len s.literals + length x = c.extend_from_slice.ensures.len ∙ sym (if_true (is_ok c.extend_from_slice.result) _ _ k) in
+    let p = c.push_reserved.ensures in (
       s.sized,
       (
-        ap (ends_well (vec_len c.extend-from-slice.new.self) 0) (p.items ∙ ap (λ n. vec_items s.ends ++ (n ∷ [])) c.len-end.ensures) ∙ ends_more (vec_len s.literals) (vec_len c.extend-from-slice.new.self) 0 (vec_items s.ends) (omega (arith, l)) s.ended,
+        ap (ends_well (vec_len c.extend_from_slice.new.self) 0) (p.items ∙ ap (λ n. vec_items s.ends ++ (n ∷ [])) c.len-end.ensures) ∙ ends_more (vec_len s.literals) (vec_len c.extend_from_slice.new.self) 0 (vec_items s.ends) (omega (arith, l)) s.ended,
         (
           omega (arith, l, p.len, c.len.ensures, c.len-2.ensures, c.if-clause-len.false),
           (
-            omega (arith, c.extend-from-slice.ensures.capacity, s.room_for_literals),
+            omega (arith, c.extend_from_slice.ensures.capacity, s.room_for_literals),
             (
               omega (arith, p.capacity, s.room_for_ends),
               (
@@ -58,14 +58,14 @@ returns c =
     let row = vec_items s.literals in
     let ends = vec_items s.ends in
     let u = places_used row (vec_len s.literals) (vec_len s.ends) ends s.literals.ok.0 s.ends.ok.0 s.ended in
-    let a : all_in_range s.variables x ≡ true = sym c.if-not-all-in-range.ensures.tells-literals-in-range in
+    let a : all_in_range s.variables x ≡ true = sym c.if-not-all_in_range.ensures.tells_literals_in_range in
     let r : room_for m x ≡ true = le-leb _ _ (omega (arith, u, c.len.ensures, c.len-2.ensures, c.if-clause-len.false)) in
     let n : appendable m x ≡ true = ap₂ ◌&&◌ a r in
-    let k : is_ok c.extend-from-slice.result ≡ true = c.extend-from-slice.ensures.succeeds (omega (arith, c.len.ensures, c.len-2.ensures, c.if-clause-len.false, s.few, s.room_for_literals)) in
-    let i : vec_items c.extend-from-slice.new.self ≡ row ++ x = c.extend-from-slice.ensures.items ∙ sym (if_true (is_ok c.extend-from-slice.result) _ _ k) in
-    let l : vec_len c.extend-from-slice.new.self ≡ vec_len s.literals + length x = c.extend-from-slice.ensures.len ∙ sym (if_true (is_ok c.extend-from-slice.result) _ _ k) in
+    let k : is_ok c.extend_from_slice.result ≡ true = c.extend_from_slice.ensures.succeeds (omega (arith, c.len.ensures, c.len-2.ensures, c.if-clause-len.false, s.few, s.room_for_literals)) in
+    let i : vec_items c.extend_from_slice.new.self ≡ row ++ x = c.extend_from_slice.ensures.items ∙ sym (if_true (is_ok c.extend_from_slice.result) _ _ k) in
+    let l : vec_len c.extend_from_slice.new.self ≡ vec_len s.literals + length x = c.extend_from_slice.ensures.len ∙ sym (if_true (is_ok c.extend_from_slice.result) _ _ k) in
     let q = clauses_more row x 0 c.len-end.result ends (omega (arith, c.len-end.ensures, l, s.literals.ok.0)) (ends_of row (vec_len s.literals) 0 ends s.literals.ok.0 s.ended) in
-    let cs = ap₂ (λ (xs : List ℤ) (es : List ℕ). clauses_from xs 0 es) i c.push-reserved.ensures.items ∙ q in
+    let cs = ap₂ (λ (xs : List ℤ) (es : List ℕ). clauses_from xs 0 es) i c.push_reserved.ensures.items ∙ q in
     record {
       answer = if_true (room_for m x) (Ok tt) (Err Places) r ∙ if_true (all_in_range s.variables x) _ (Err Literal) a;
       granted = sym n;

@@ -35,32 +35,32 @@ pub returns-then-number-ends : goal.returns-then-number-ends
 returns-then-number-ends c =
     let s = c.args.self.now.store in
     let n = clause_count (vec_items s.literals) 0 (vec_items s.ends) in
-    record { given-exactly-if-there-is-such-a-clause = sym (le-ltb _ _ (omega (arith, n, ap length c.as-slice-ends.ensures.value))); is-the-clause-of-this-number = tt }
+    record { given_exactly_if_there_is_such_a_clause = sym (le-ltb _ _ (omega (arith, n, ap length c.as_slice-ends.ensures.value))); is_the_clause_of_this_number = tt }
 
 pub part-requires : goal.part-requires
 part-requires c =
     let s = c.args.self.now.store in
-    let row = c.as-slice.result.now in
-    let ends = c.as-slice-ends.result.now in
+    let row = c.as_slice.result.now in
+    let ends = c.as_slice-ends.result.now in
     let well = ends_of (vec_items s.literals) (vec_len s.literals) 0 (vec_items s.ends) s.literals.ok.0 s.ended in
-    let e = ends_as row (vec_items s.literals) ends (vec_items s.ends) c.as-slice.ensures.value c.as-slice-ends.ensures.value well in
+    let e = ends_as row (vec_items s.literals) ends (vec_items s.ends) c.as_slice.ensures.value c.as_slice-ends.ensures.value well in
     let w = lies_within row 0 c.args.number ends c.if-number-ends.false e in
-    let b = begin_is c.begin.result c.args.number ends c.begin.ensures.first-begins-at-the-start c.begin.ensures.others-begin-where-one-ends in
-    record { in_order = omega (arith, b, w.0); within-the-row = w.1 }
+    let b = begin_is c.begin.result c.args.number ends c.begin.ensures.first_begins_at_the_start c.begin.ensures.others_begin_where_one_ends in
+    record { in_order = omega (arith, b, w.0); within_the_row = w.1 }
 
 pub returns : goal.returns
 returns c =
     let s = c.args.self.now.store in
     let n = c.args.number in
-    let row = c.as-slice.result.now in
-    let ends = c.as-slice-ends.result.now in
-    let er = c.as-slice.ensures.value in
-    let ee = c.as-slice-ends.ensures.value in
-    let b = begin_is c.begin.result n ends c.begin.ensures.first-begins-at-the-start c.begin.ensures.others-begin-where-one-ends in
+    let row = c.as_slice.result.now in
+    let ends = c.as_slice-ends.result.now in
+    let er = c.as_slice.ensures.value in
+    let ee = c.as_slice-ends.ensures.value in
+    let b = begin_is c.begin.result n ends c.begin.ensures.first_begins_at_the_start c.begin.ensures.others_begin_where_one_ends in
     let l = clause_count (vec_items s.literals) 0 (vec_items s.ends) in
-    let part = c.part.ensures.is-that-part ∙ (λ i. take (get_or ends n 0 - b i) (drop (b i) row)) in
+    let part = c.part.ensures.is_that_part ∙ (λ i. take (get_or ends n 0 - b i) (drop (b i) row)) in
     let held = sym (clause_at row 0 n ends c.if-number-ends.false) ∙ (λ i. get_or (clauses_from (er i) 0 (ee i)) n []) in
     record {
-      given-exactly-if-there-is-such-a-clause = sym (lt-ltb _ _ (omega (arith, l, ap length ee, c.if-number-ends.false)));
-      is-the-clause-of-this-number = part ∙ held;
+      given_exactly_if_there_is_such_a_clause = sym (lt-ltb _ _ (omega (arith, l, ap length ee, c.if-number-ends.false)));
+      is_the_clause_of_this_number = part ∙ held;
     }

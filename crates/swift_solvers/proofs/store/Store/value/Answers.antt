@@ -15,5 +15,5 @@ returns c =
     let t : (leb 1 j && leb j s.variables) ≡ true = ap₂ ◌&&◌ (le-leb 1 j c.if-j-lt1.false) (le-leb j s.variables c.if-j-self.false) in
     let w = s.whole c.if-not-self.false in
     let g = get_or_default xs (j - 1) c.index.result.now None (omega (arith, w, s.values.ok.0, c.if-j-lt1.false, c.if-j-self.false)) in
-    let b : c.bit-of.result ≡ get_or (reading_of xs) (j - 1) false = c.bit-of.ensures.is-the-bit ∙ ap bit_of (c.index.ensures ∙ g) ∙ sym (get_or-map bit_of xs (j - 1) None) in
+    let b : c.bit_of.result ≡ get_or (reading_of xs) (j - 1) false = c.bit_of.ensures.is_the_bit ∙ ap bit_of (c.index.ensures ∙ g) ∙ sym (get_or-map bit_of xs (j - 1) None) in
     record { answer = ap Ok b ∙ sym (ap (λ r. bit_in (cond r (Some (reading_of xs)) None) j) c.if-not-self.false) ∙ if_true (leb 1 j && leb j s.variables) _ (Err Variable) t }

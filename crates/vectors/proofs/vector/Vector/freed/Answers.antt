@@ -7,12 +7,12 @@ use Rattle.vectors.specs.Freeing.{FreesOnly, freed}
 use Rattle.vectors.proofs.Freed.{freed_cells, freed_is_zero}
 use Rattle.vectors.proofs.vector.Vector.freed.Goals as goal
 
-pub invariant-of-result : goal.invariant-of-result
-invariant-of-result c =
+pub invariant_of-result : goal.invariant_of-result
+invariant_of-result c =
     let v = c.args.self.now in
-    (ap₂ bit_and c.without-value.ensures.lacks-the-bit c.without-care.ensures.lacks-the-bit ∙ freed_is_zero v.care v.value c.args.input v.free_is_zero ∙ sym c.without-value.ensures.lacks-the-bit, tt)
+    (ap₂ bit_and c.without-value.ensures.lacks_the_bit c.without-care.ensures.lacks_the_bit ∙ freed_is_zero v.care v.value c.args.input v.free_is_zero ∙ sym c.without-value.ensures.lacks_the_bit, tt)
 
 pub returns : goal.returns
 returns c =
-    let e : holding c.without-care.result c.without-value.result ≡ freed (cells_of c.args.self.now) c.args.input = ap₂ holding c.without-care.ensures.lacks-the-bit c.without-value.ensures.lacks-the-bit in
-    record { lacks-both-bits = e; frees-that-cell-alone = subst (λ (w : Cells). FreesOnly c.args.input (cells_of c.args.self.now) w) (sym e) (freed_cells (cells_of c.args.self.now) c.args.input) }
+    let e : holding c.without-care.result c.without-value.result ≡ freed (cells_of c.args.self.now) c.args.input = ap₂ holding c.without-care.ensures.lacks_the_bit c.without-value.ensures.lacks_the_bit in
+    record { lacks_both_bits = e; frees_that_cell_alone = subst (λ (w : Cells). FreesOnly c.args.input (cells_of c.args.self.now) w) (sym e) (freed_cells (cells_of c.args.self.now) c.args.input) }

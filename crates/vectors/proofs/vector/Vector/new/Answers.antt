@@ -10,9 +10,9 @@ pub returns-then-value-care : goal.returns-then-value-care
 returns-then-value-care c =
     let e : true ≡ in_form c.args.inputs c.args.care c.args.value = grind (arith, nat_tests) in
     record {
-      taken-exactly-if-in-form = e;
-      in-form-means-bit-by-bit = judges c.args.inputs c.args.care c.args.value true e;
-      holds-both-numbers = search rules;
+      taken_exactly_if_in_form = e;
+      in_form_means_bit_by_bit = judges c.args.inputs c.args.care c.args.value true e;
+      holds_both_numbers = search rules;
     }
 
 pub returns-else-below : goal.returns-else-below
@@ -20,7 +20,7 @@ returns-else-below c =
     let e : false ≡ in_form c.args.inputs c.args.care c.args.value =
     elim c.else-below.branch [ else-below-via-then-below+else-value-care w ↦ grind (arith, nat_tests) | else-below-via-else-below w ↦ grind (arith, nat_tests) ] in
     record {
-      taken-exactly-if-in-form = e;
-      in-form-means-bit-by-bit = judges c.args.inputs c.args.care c.args.value false e;
-      holds-both-numbers = search rules;
+      taken_exactly_if_in_form = e;
+      in_form_means_bit_by_bit = judges c.args.inputs c.args.care c.args.value false e;
+      holds_both_numbers = search rules;
     }
