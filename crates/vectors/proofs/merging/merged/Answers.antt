@@ -21,7 +21,7 @@ pub invariant_of-result : goal.invariant_of-result
 invariant_of-result c =
     let a = c.args.a.now in
     let b = c.args.b.now in
-    (union_is_zero a.care a.value b.care b.value a.free_is_zero b.free_is_zero, tt)
+    record { free_is_zero = union_is_zero a.care a.value b.care b.value a.free_is_zero b.free_is_zero }
 
 pub returns : goal.returns
 returns c =

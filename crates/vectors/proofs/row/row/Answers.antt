@@ -41,7 +41,7 @@ loop-j-preserved c =
     (r.0, r.1, characters_more c.args.bytes.now c.loop-j.j h c.in_ok-cell.ensures.a_cells_character c.loop-j.invariant.2)
 
 pub invariant_of-result : goal.invariant_of-result
-invariant_of-result c = (free_from_bits c.loop-j.care c.loop-j.value c.loop-j.invariant.0.free_is_zero, tt)
+invariant_of-result c = record { free_is_zero = free_from_bits c.loop-j.care c.loop-j.value c.loop-j.invariant.0.free_is_zero }
 
 pub returns : goal.returns
 returns c =

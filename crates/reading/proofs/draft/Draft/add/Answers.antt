@@ -7,7 +7,7 @@ pub invariant_of-self : goal.invariant_of-self
 invariant_of-self c =
     let d = c.args.self.now in
     let r = roomy d c.args.command c.in-AddInput.is c.requires.not_late c.requires.not_overfull (search rules) in
-    (r.0, (r.1, (d.outputs_fit, tt)))
+    record { inputs_fit = r.0; nets_fit = r.1; outputs_fit = d.outputs_fit }
 
 pub returns-in-AddGate : goal.returns-in-AddGate
 returns-in-AddGate c = search (rules, take_more_set)

@@ -10,7 +10,7 @@ use Rattle.vectors.proofs.vector.Vector.freed.Goals as goal
 pub invariant_of-result : goal.invariant_of-result
 invariant_of-result c =
     let v = c.args.self.now in
-    (ap₂ bit_and c.without-value.ensures.lacks_the_bit c.without-care.ensures.lacks_the_bit ∙ freed_is_zero v.care v.value c.args.input v.free_is_zero ∙ sym c.without-value.ensures.lacks_the_bit, tt)
+    record { free_is_zero = ap₂ bit_and c.without-value.ensures.lacks_the_bit c.without-care.ensures.lacks_the_bit ∙ freed_is_zero v.care v.value c.args.input v.free_is_zero ∙ sym c.without-value.ensures.lacks_the_bit }
 
 pub returns : goal.returns
 returns c =
