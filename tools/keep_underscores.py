@@ -51,7 +51,9 @@ def turned(token, known, longest):
 
 def imported(text):
     out = set()
-    for names in re.findall(r"^use \S+?\.\{(.*?)\}", text, re.S | re.M):
+    for path, names in re.findall(r"^use (\S+?)\.\{(.*?)\}", text, re.S | re.M):
+        if path.endswith("Goals"):
+            continue
         out.update(x.strip() for y in names.split(",") for x in y.split(" as "))
     return out
 

@@ -4,7 +4,7 @@ use Rattle.signal.specs.declared.line.Line.TheVariants.{Net}
 use Rattle.faults.specs.declared.reader.Reader.{Reader}
 use Rattle.faults.proofs.Listed.{shared_all, shared_more_no, shared_more_yes}
 use Rattle.faults.proofs.readers.share.Goals as goal
-use Rattle.faults.proofs.readers.share.Goals.{then-counts-reader-ge-SHARED+in-ok-push, else-counts-reader-ge-SHARED}
+use Rattle.faults.proofs.readers.share.Goals.{then-counts-reader-ge-SHARED+in_ok-push, else-counts-reader-ge-SHARED}
 
 pub loop-reader-preserved : goal.loop-reader-preserved
 loop-reader-preserved c =
@@ -14,7 +14,7 @@ loop-reader-preserved c =
     let on = c.requires.read_nets_of_a_card i d c.loop-reader-test.true in
     let e = c.requires.counts_are_the_lists (get_or list i d).net on in
     elim c.if-counts-reader-ge-SHARED.branch [
-      | then-counts-reader-ge-SHARED+in-ok-push w ↦ let t = w.if-counts-reader-ge-SHARED.true in shared_more_yes list list (vec_items c.loop-reader.found) _ i (get_or list i d) d c.loop-reader-test.true refl (omega arith) (ap vec_items w.found-is ∙ w.in_ok-push.ensures.items) c.loop-reader.invariant
+      | then-counts-reader-ge-SHARED+in_ok-push w ↦ let t = w.if-counts-reader-ge-SHARED.true in shared_more_yes list list (vec_items c.loop-reader.found) _ i (get_or list i d) d c.loop-reader-test.true refl (omega arith) (ap vec_items w.found-is ∙ w.in_ok-push.ensures.items) c.loop-reader.invariant
       | else-counts-reader-ge-SHARED w ↦ let t = w.if-counts-reader-ge-SHARED.false in shared_more_no list list _ i (get_or list i d) d c.loop-reader-test.true refl (omega arith) (ap vec_items w.found-is ∙ c.loop-reader.invariant)
     ]
 

@@ -5,7 +5,7 @@ use Rattle.job.specs.Tables.{card_of, view_of}
 use Rattle.job.specs.declared.table.Table.{Table}
 use Rattle.job.proofs.Sweeping.{SweptTo, cells_listed, swept_count, swept_no, swept_view, swept_yes, sweep_refused}
 use Rattle.job.proofs.table.Table.sweep.Goals as goal
-use Rattle.job.proofs.table.Table.sweep.Goals.{then-sweep-marks, else-sweep-marks}
+use Rattle.job.proofs.table.Table.sweep.Goals.{then-sweep_marks, else-sweep_marks}
 
 pub returns-then-number-len : goal.returns-then-number-len
 returns-then-number-len c =
@@ -20,11 +20,11 @@ loop-fault-preserved c =
     let v : Table = c.if-sweep_marks.self in
     let lt : c.loop-fault.fault < length (vec_items t.marks) = omega arith in
     elim c.if-sweep_marks.branch [
-      | then-sweep-marks w ↦
+      | then-sweep_marks w ↦
           subst (λ (n : ℕ). SweptTo t c.args.number (cells_of c.index.result.now) (c.loop-fault.fault + 1) n v) (sym w.count-is)
           (swept_yes t u v _ _ _ _ lt c.loop-fault.invariant (ap (λ (k : Table). card_of k) w.self-is) (ap (λ (k : Table). vec_items k.taken) w.self-is) (ap (λ (k : Table). vec_items k.vectors) w.self-is)
           w.if-sweep_marks.ensures.open_not_taken_and_caught (ap (λ (k : Table). vec_items k.marks) w.self-is))
-      | else-sweep-marks w ↦
+      | else-sweep_marks w ↦
           subst (λ (n : ℕ). SweptTo t c.args.number (cells_of c.index.result.now) (c.loop-fault.fault + 1) n v) (sym w.count-is)
           (swept_no t u v _ _ _ _ lt c.loop-fault.invariant (ap (λ (k : Table). card_of k) w.self-is) (ap (λ (k : Table). vec_items k.taken) w.self-is) (ap (λ (k : Table). vec_items k.vectors) w.self-is)
           w.if-sweep_marks.ensures.open_not_taken_and_caught (ap (λ (k : Table). vec_items k.marks) w.self-is))
