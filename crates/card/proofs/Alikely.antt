@@ -1,5 +1,5 @@
 -- The tests of alikeness decide it, and it is an equivalence.
-use Rattle.std.proofs.Common.{◌≡◌, ℕ, zero, suc, ◌+◌, ◌<◌, ◌≤◌, Bool, true, false, ◌&&◌, ◌||◌, eqb, ◌⊎◌, List, [], ◌∷◌, length, get_or, drop, Decides, sym, refl, ap, ◌∙◌, subst, inl, inr, ⊎_elim, le_of_suc-le-suc, not-suc-le-zero, arith}
+use Rattle.std.proofs.Common.{◌≡◌, ℕ, zero, suc, ◌+◌, ◌<◌, ◌≤◌, Bool, true, false, ◌&&◌, eqb, List, [], ◌∷◌, length, get_or, drop, Decides, sym, refl, ap, ◌∙◌, ⊎_elim, le_of_suc-le-suc, not-suc-le-zero, arith}
 use Rattle.std.proofs.lemmas.List.{drop_more, drop_all}
 use Rattle.std.proofs.lemmas.Bool.{and_from, and_left, and_parts, and_right, eq-eqb, eqb-true, false≢true, or_cases, or_left, or_right}
 use Rattle.card.specs.declared.function.Function.{Function}
@@ -9,7 +9,7 @@ use Rattle.card.specs.declared.gate.Operands.{Operands}
 use Rattle.card.specs.declared.gate.Operands.TheVariants.{None, One, Two}
 use Rattle.card.specs.Alikes.{Alike, AlikeLaws, AsOften, SameGate, same_gate, same_gates, same_operands, times}
 use Rattle.card.specs.Functions.{function_number, function_of}
-use Rattle.card.specs.Netlists.{Netlist, nets_read, pins_of}
+use Rattle.card.specs.Netlists.{Netlist, nets_read}
 use Rattle.card.proofs.Oftens.{never_none_one, never_none_two, never_one_two, often_one, often_two, swapped_often}
 
 -- the loop over two lists of gates

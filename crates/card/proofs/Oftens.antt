@@ -1,7 +1,7 @@
 -- Operands that stand as often, case by case of how many there are.
-use Rattle.std.proofs.Common.{◌≡◌, ℕ, ◌+◌, ◌≤◌, Bool, true, false, cond, eqb, ◌⊎◌, List, [], ◌∷◌, sym, refl, ap, ◌∙◌, subst, inl, inr, ⊎_elim, arith}
+use Rattle.std.proofs.Common.{◌≡◌, ℕ, ◌≤◌, cond, eqb, ◌⊎◌, [], ◌∷◌, sym, refl, ap, ◌∙◌, inl, inr, ⊎_elim, arith}
 use Rattle.std.proofs.lemmas.Bool.{cases_eq, eq-eqb, ne_eqb}
-use Rattle.card.specs.Alikes.{AsOften, times}
+use Rattle.card.specs.Alikes.{AsOften}
 
 -- one place of a list: 1 where the number stands there, else 0
 abbrev one : ℕ → ℕ → ℕ

@@ -1,5 +1,7 @@
 // The program `caught`: a card file, then lines of cells on standard input; for each line the numbers of the faults that it catches.
 // All that decides anything is in the libraries; this file reads, asks fault by fault and prints.
+#![tactic(auto)]
+
 use anyhow::anyhow;
 use card::netlist::Card;
 use faults::catching::catches;

@@ -1,5 +1,7 @@
 // The program `dimacs`: formulas in DIMACS text on standard input, solved one after the other by our solvers.
 // Comment lines set what the text form lacks: `c leading K`, `c budget B` and `c solver backtracking` or `counting`.
+#![tactic(auto)]
+
 use solvers::{Backtracking, Counting};
 use solving::{Solver, Verdict};
 use std::alloc::{AllocError, Global};

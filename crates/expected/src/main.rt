@@ -1,5 +1,7 @@
 // The program `expected`: a card file, then lines of cells on standard input; for each line the outputs that a good card shows.
 // All that decides anything is in the libraries; this file reads and prints.
+#![tactic(auto)]
+
 use anyhow::anyhow;
 use card::netlist::Card;
 use reading::fault::CardFault;

@@ -9,7 +9,7 @@ use Rattle.std.proofs.lemmas.Bool.{cases_eq, eq-eqb, ne_eqb}
 use Rattle.card.specs.declared.gate.Gate.{Gate}
 use Rattle.card.specs.declared.gate.Operands.{Operands}
 use Rattle.card.specs.declared.gate.Operands.TheVariants.{None, One, Two}
-use Rattle.card.specs.Netlists.{Lawful, Netlist, Ordered, all_below, nets, nets_read, pins_of}
+use Rattle.card.specs.Netlists.{Lawful, Netlist, Ordered, all_below, nets_read, pins_of}
 use Rattle.card.proofs.Below.{below_head, below_tail}
 use Rattle.faults.specs.declared.reader.Reader.{Reader}
 use Rattle.faults.specs.Readers.{branches, gate_readers, pin_readers, read_in, readers, reads, shared}

@@ -15,7 +15,7 @@ use Rattle.signal.specs.Gates.{truth}
 use Rattle.signal.specs.Operations.{bit_operations, differ}
 use Rattle.signal.specs.Walks.{gate_net, level_of, net_values, pin_values, sticks_net, sticks_pin}
 use Rattle.signal.proofs.Walked.{length_net_values, net_value_of_gate, net_value_of_input}
-use Rattle.formula.specs.Links.{Link, copies, gate_links, input_links, link, links, output_links, pin_variables, tied}
+use Rattle.formula.specs.Links.{copies, gate_links, input_links, link, links, output_links, pin_variables, tied}
 use Rattle.formula.specs.Variables.{difference, faulty, good, stuck_line, variables}
 use Rattle.formula.proofs.Linked.{ordered_head, ordered_tail}
 use Rattle.formula.proofs.Renamed.{read_bits}

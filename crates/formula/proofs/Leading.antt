@@ -1,16 +1,16 @@
 -- Every fault formula is led: where closure ends unviolated, every link passes 'has a bit' on from its pins to its variable.
-use Rattle.std.proofs.Common.{◌≡◌, ℕ, zero, suc, pred, ◌+◌, ◌-◌, ◌<◌, ◌≤◌, Bool, true, false, ◌⊎◌, List, [], ◌∷◌, ◌++◌, length, get_or, replicate, ℤ, Some, None, Option, sym, refl, ap, ◌∙◌, inl, inr, arith, length-append}
-use lib.ListN.{length-map, length-replicate}
+use Rattle.std.proofs.Common.{◌≡◌, ℕ, zero, suc, ◌-◌, ◌<◌, Bool, true, false, ◌⊎◌, List, [], ◌∷◌, ◌++◌, length, get_or, replicate, ℤ, Some, None, sym, refl, ap, ◌∙◌, inl, inr, arith}
+use lib.ListN.{length-map}
 use Rattle.std.proofs.lemmas.List.{get_or_append_left}
 use Rattle.std.specs.List.{flat_map, AllByRecursion as All}
 use Rattle.card.specs.Netlists.{Netlist, Lawful, nets}
 use Rattle.signal.specs.declared.line.Stuck.{Stuck}
 use Rattle.solving.specs.Closing.{closure, first_unit, or_broken, or_unit, violated}
-use Rattle.solving.specs.Leading.{Led, leads}
+use Rattle.solving.specs.Leading.{leads}
 use Rattle.solving.specs.Settings.{Setting, at, full, open_in}
 use Rattle.solving.specs.States.{state_of}
 use Rattle.solving.proofs.Closed.{Closed, closed_tail, still_head, whole_head}
-use Rattle.solving.proofs.Closures.{closed_closure, closure_grows, closure_length}
+use Rattle.solving.proofs.Closures.{closed_closure, closure_grows}
 use Rattle.solving.proofs.Places.{full_at, none_some}
 use Rattle.formula.specs.Formulas.{differences, formula_of}
 use Rattle.formula.specs.Links.{Link, clauses_of, links}

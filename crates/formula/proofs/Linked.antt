@@ -1,5 +1,5 @@
 -- The links of a lawful card: each has as many pins as its function asks, and each gate's pins read nets before it.
-use Rattle.std.proofs.Common.{◌≡◌, ℕ, zero, suc, ◌+◌, ◌<◌, Bool, true, false, cond, List, [], ◌∷◌, ◌++◌, length, get_or, Some, None, Option, sym, refl, ap, ◌∙◌, add-zero, add-suc, suc-add, arith}
+use Rattle.std.proofs.Common.{◌≡◌, ℕ, zero, suc, Bool, true, false, cond, List, [], ◌∷◌, length, get_or, Some, None, Option, sym, refl, ap, ◌∙◌, add-zero, add-suc, suc-add, arith}
 use Rattle.std.proofs.ByRecursion.{All-append}
 use Rattle.std.specs.List.{AllByRecursion as All}
 use Rattle.card.specs.declared.function.Function.{Function}
@@ -8,7 +8,7 @@ use Rattle.card.specs.Functions.{pin_count}
 use Rattle.card.specs.Netlists.{Netlist, Lawful, Ordered, PinsMatch, all_below, nets, pins_of}
 use Rattle.signal.specs.declared.line.Stuck.{Stuck}
 use Rattle.signal.specs.Walks.{sticks_net}
-use Rattle.formula.specs.Links.{Link, copies, gate_links, input_links, link, links, output_links, pin_variables, tied}
+use Rattle.formula.specs.Links.{copies, gate_links, input_links, link, links, output_links, pin_variables, tied}
 use Rattle.formula.specs.Variables.{faulty, good, stuck_line}
 use Rattle.formula.proofs.Ruled.{Fitted}
 

@@ -1,21 +1,20 @@
 -- One turn of the loops that put links, and the calls of the encoder one after another.
-use Rattle.std.proofs.Common.{◌≡◌, ℕ, zero, suc, ◌+◌, ◌-◌, ◌/◌, ◌%◌, ◌<◌, ◌≤◌, Bool, true, false, cond, eqb, ltb, List, [], ◌∷◌, ◌++◌, length, get_or, take, drop, set, ℤ, pos, Some, None, Option, sym, refl, ap, ◌∙◌, subst, append_assoc, add-one, arith}
+use Rattle.std.proofs.Common.{◌≡◌, ℕ, zero, suc, ◌+◌, ◌-◌, ◌/◌, ◌%◌, ◌<◌, ◌≤◌, true, false, cond, eqb, ltb, List, [], ◌∷◌, ◌++◌, length, get_or, take, drop, set, ℤ, pos, Some, None, Option, sym, refl, ap, ◌∙◌, append_assoc, add-one, arith}
 use Rattle.std.proofs.lemmas.List.{append-nil, at_drop_all, at_drop_more, take_more_set}
 use Rattle.std.proofs.lemmas.Bool.{and_from, le-leb, lt-ltb, ltb-false}
 use Rattle.std.specs.List.{flat_map}
-use Rattle.card.specs.declared.function.Function.{Function}
 use Rattle.card.specs.declared.function.Function.TheVariants.{Xor2}
 use Rattle.card.specs.declared.gate.Gate.{Gate}
 use Rattle.card.specs.Netlists.{Netlist, nets}
 use Rattle.signal.specs.declared.line.Stuck.{Stuck}
 use Rattle.signal.specs.Walks.{sticks_net}
-use Rattle.solving.specs.Literals.{all_in_range, in_range, places}
+use Rattle.solving.specs.Literals.{all_in_range, places}
 use Rattle.solving.specs.Models.{Model, appendable, begun, longer, startable}
-use Rattle.faults.specs.Sites.{fault_count, site_count, stuck_at, stuck_of}
+use Rattle.faults.specs.Sites.{fault_count, stuck_at, stuck_of}
 use Rattle.faults.proofs.Sited.{no_line_past}
 use Rattle.formula.specs.Formulas.{differences, formula_of}
 use Rattle.formula.specs.Links.{Link, clauses_of, copies, gate_link, gate_links, input_links, link, links, output_links, tied}
-use Rattle.formula.specs.Posing.{holding, holds_formula, more, net_variable, rising}
+use Rattle.formula.specs.Posing.{holding, holds_formula, more, rising}
 use Rattle.formula.specs.Variables.{difference, faulty, good, stuck_line, variables}
 use Rattle.formula.proofs.Puts.{more_more}
 

@@ -1,7 +1,6 @@
 -- A reading satisfies the formula of a fault exactly if it is the one that a showing setting determines.
-use Rattle.std.proofs.Common.{◌≡◌, ℕ, zero, suc, pred, ◌+◌, ◌<◌, ◌≤◌, Bool, true, false, not, ◌&&◌, ◌||◌, List, [], ◌∷◌, ◌++◌, length, get_or, take, ℤ, sym, refl, ap, ◌∙◌, subst, true≢false, arith}
+use Rattle.std.proofs.Common.{◌≡◌, ℕ, zero, suc, ◌+◌, ◌<◌, Bool, true, false, ◌||◌, List, [], ◌∷◌, length, get_or, take, sym, refl, ap, ◌∙◌, subst, true≢false, arith}
 use mathlib.Core.Bool.{beq, false≢true}
-use Rattle.std.proofs.ByRecursion.{All-weaker}
 use Rattle.std.proofs.lemmas.List.{ext_get_or, get_or-take, length-take-le}
 use Rattle.std.proofs.lemmas.Bool.{and_from, and_parts, or_left, or_right}
 use Rattle.std.specs.List.{flat_map, AllByRecursion as All}
@@ -9,13 +8,13 @@ use Rattle.card.specs.Netlists.{Netlist, Lawful, nets}
 use Rattle.signal.specs.declared.line.Stuck.{Stuck}
 use Rattle.signal.specs.Gates.{truth}
 use Rattle.signal.specs.Operations.{bit_operations, differ}
-use Rattle.solving.specs.Readings.{holds, satisfies, Satisfies}
-use Rattle.faults.specs.Showing.{Shows, ShowsAt}
+use Rattle.solving.specs.Readings.{holds, Satisfies}
+use Rattle.faults.specs.Showing.{Shows}
 use Rattle.formula.specs.Formulas.{differences, formula_of}
-use Rattle.formula.specs.Links.{Link, clauses_of, links}
+use Rattle.formula.specs.Links.{clauses_of, links}
 use Rattle.formula.specs.Meanings.{Extends, Means}
 use Rattle.formula.specs.Variables.{difference, variables}
-use Rattle.formula.proofs.Canonical.{at_difference, bit_at, canonical, canonical_begins, canonical_length, differs_at, links_hold}
+use Rattle.formula.proofs.Canonical.{at_difference, bit_at, canonical, canonical_begins, canonical_length, links_hold}
 use Rattle.formula.proofs.Known.{Step, known, known_at}
 use Rattle.formula.proofs.Linked.{links_fitted}
 use Rattle.formula.proofs.Parts.{all_both, each_satisfies, satisfies_append, satisfies_each}

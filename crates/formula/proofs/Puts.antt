@@ -1,5 +1,5 @@
 -- One clause of the table as the code puts it: its codes one by one, its literals, and what the solver makes of it.
-use Rattle.std.proofs.Common.{◌≡◌, ℕ, zero, suc, pred, ◌+◌, ◌<◌, ◌≤◌, Bool, true, false, cond, ◌&&◌, leb, List, [], ◌∷◌, ◌++◌, map, length, get_or, take, drop, set, ℤ, pos, negsuc, ◌-ℤ◌, sym, refl, ap, ◌∙◌, subst, ap₂, append_assoc, arith, length-append}
+use Rattle.std.proofs.Common.{◌≡◌, ℕ, zero, suc, pred, ◌+◌, ◌<◌, ◌≤◌, true, false, cond, List, [], ◌∷◌, ◌++◌, map, length, get_or, take, drop, set, ℤ, pos, negsuc, ◌-ℤ◌, sym, refl, ap, ◌∙◌, append_assoc, arith}
 use mathlib.Core.Bool.{false≢true}
 use lib.ListN.{length-map}
 use lib.Signed.{lt_z}

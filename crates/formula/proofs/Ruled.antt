@@ -1,6 +1,6 @@
 -- One rule over the whole table, computed row by row: each row's clauses say that A is the function of its pins, ask for A where
 -- the pins are set, name no variable but A and the pins, and have at most 16 places. Nothing else looks into the table.
-use Rattle.std.proofs.Common.{◌≡◌, ℕ, zero, suc, pred, ◌≤◌, Bool, true, false, ◌&&◌, ◌||◌, leb, List, [], ◌∷◌, map, length, get_or, ℤ, is_some, Some, None, Option, sym, refl, ap, ◌∙◌, subst, true≢false, arith}
+use Rattle.std.proofs.Common.{◌≡◌, ℕ, zero, suc, pred, ◌≤◌, Bool, true, false, ◌&&◌, ◌||◌, leb, List, [], ◌∷◌, length, get_or, ℤ, is_some, Some, None, Option, sym, refl, ap, ◌∙◌, true≢false, arith}
 use mathlib.Core.Bool.{beq, false≢true}
 use lib.ListN.{length-map}
 use Rattle.std.proofs.lemmas.Bool.{and_parts, leb-true, or_from}
@@ -15,7 +15,7 @@ use Rattle.solving.specs.Readings.{satisfies, Satisfies}
 use Rattle.solving.specs.Settings.{Setting, at, full}
 use Rattle.solving.specs.Closing.{first_unit, violated}
 use Rattle.solving.proofs.Closed.{Closed}
-use Rattle.formula.specs.Rows.{rows, over}
+use Rattle.formula.specs.Rows.{rows}
 use Rattle.formula.specs.Links.{Link, clauses_of}
 use Rattle.formula.specs.RowLaws.{RowsMean}
 use Rattle.formula.proofs.Renamed.{in_table, read_bits, set_bits, satisfies_over, violated_over, first_unit_over, places_over}

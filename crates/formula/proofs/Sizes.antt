@@ -1,5 +1,5 @@
 -- How large a formula is: a link has at most 16 places, and each net and each output has its links.
-use Rattle.std.proofs.Common.{◌≡◌, ℕ, zero, suc, ◌+◌, ◌*◌, ◌<◌, ◌≤◌, Bool, true, false, List, [], ◌∷◌, ◌++◌, length, ℤ, Some, None, Option, refl, ap, ◌∙◌, arith}
+use Rattle.std.proofs.Common.{◌≡◌, ℕ, zero, suc, ◌+◌, ◌*◌, ◌≤◌, Bool, true, false, List, [], ◌∷◌, ◌++◌, length, Some, None, Option, refl, ap, ◌∙◌, arith}
 use Rattle.std.specs.List.{flat_map}
 use Rattle.card.specs.declared.gate.Gate.{Gate}
 use Rattle.card.specs.Netlists.{Netlist, Lawful, nets}
@@ -8,7 +8,7 @@ use Rattle.solving.specs.Literals.{places}
 use Rattle.formula.specs.Formulas.{differences, formula_of}
 use Rattle.formula.specs.Links.{Link, clauses_of, gate_link, gate_links, input_links, link, links, output_links, tied}
 use Rattle.formula.specs.Meanings.{Fits}
-use Rattle.formula.specs.Variables.{faulty, good, stuck_line, variables}
+use Rattle.formula.specs.Variables.{faulty, good, stuck_line}
 use Rattle.formula.proofs.Parts.{places_append}
 use Rattle.formula.proofs.Ruled.{link_places}
 

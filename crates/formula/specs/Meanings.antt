@@ -1,6 +1,6 @@
 -- What the formula of a fault means: its satisfying readings are those of the settings that show the fault, one for each;
 -- it is led; and it is within what a solver takes.
-use Rattle.std.specs.Prelude.{◌≡◌, ℕ, ◌≤◌, Bool, List, length, take}
+use Rattle.std.specs.Prelude.{◌≡◌, ◌≤◌, Bool, List, length, take}
 use Rattle.card.specs.Netlists.{Netlist, Lawful}
 use Rattle.signal.specs.declared.line.Stuck.{Stuck}
 use Rattle.solving.specs.Leading.{Led}

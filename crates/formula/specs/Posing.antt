@@ -1,5 +1,5 @@
 -- What a solver holds when clauses are given to it, one after another, and when it has been posed the formula of a fault.
-use Rattle.std.specs.Prelude.{ℕ, zero, suc, ◌≤◌, Bool, List, [], ◌∷◌, ℤ, pos, Some, None, Option}
+use Rattle.std.specs.Prelude.{ℕ, zero, suc, ◌≤◌, List, [], ◌∷◌, ℤ, pos, Some, None, Option}
 use Rattle.std.specs.List.{AllByRecursion as All}
 use Rattle.card.specs.Netlists.{Netlist}
 use Rattle.signal.specs.declared.line.Stuck.{Stuck}

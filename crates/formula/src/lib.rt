@@ -1,5 +1,7 @@
 // The formula of a fault: clauses whose satisfying readings are those of the settings that show the fault, one for each setting,
 // and an encoder that gives them to any solver and meets no refusal.
+#![tactic(auto)]
+
 pub mod encode;
 mod gates;
 pub mod laws;

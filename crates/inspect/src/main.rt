@@ -1,5 +1,7 @@
 // The program `inspect`: each line of standard input is a card in hexadecimal, or two cards with a space between.
 // It answers a card's counts and canonical bytes, or its refusal, and of two good cards whether they are alike.
+#![tactic(auto)]
+
 use card::alike::alike;
 use card::netlist::Card;
 use reading::read::from_bytes;

@@ -1,4 +1,6 @@
 // Posing a small formula to any solver: two bits that differ. What is promised of them rests on the interface's promises alone.
+#![tactic(auto)]
+
 ghost use Rattle.std.specs.Prelude.{◌≡◌, ◌<◌, Bool, true, false, not, List, is_some, IfOk, Some, MatchOption, slice_index_or};
 ghost use Rattle.posing.specs.Differing.{differing};
 

@@ -1,10 +1,9 @@
 -- A clause of at most three places with a false literal at one of them comes to what the two others come to.
-use Rattle.std.proofs.Common.{◌≡◌, ℕ, zero, suc, ◌+◌, ◌-◌, ◌<◌, ◌≤◌, Bool, true, false, cond, eqb, ltb, leb, ◌≢◌, List, [], ◌∷◌, length, get_or, take, drop, ℤ, pos, Some, None, Option, sym, refl, ap, ◌∙◌, ap₂, le_of_suc-le-suc, not-suc-le-zero, arith, length-drop, length-take, get_or-drop, get_or-take, le-ltb, lt-ltb, eq-eqb, ne_eqb, le-leb}
+use Rattle.std.proofs.Common.{◌≡◌, ℕ, zero, suc, ◌+◌, ◌-◌, ◌<◌, ◌≤◌, true, false, cond, List, [], ◌∷◌, length, get_or, take, drop, ℤ, pos, Some, sym, refl, ap, ◌∙◌, ap₂, le_of_suc-le-suc, not-suc-le-zero, arith, length-drop, length-take, get_or-drop, get_or-take, le-ltb, lt-ltb, eq-eqb, ne_eqb, le-leb}
 use native.Mathlib.Decide.{dec_lt}
 use borrow.Author.Tests.{lt-leb}
 use Rattle.std.proofs.lemmas.List.{get_or_past, get_or_default}
-use Rattle.solving.specs.Settings.{Setting, at, worth, value}
-use Rattle.solving.specs.declared.state.State.{State}
+use Rattle.solving.specs.Settings.{Setting, worth, value}
 use Rattle.solving.specs.declared.state.State.TheVariants.{Broken as broken}
 use Rattle.solving.specs.States.{joined, state_of}
 use Rattle.propagation.specs.Occurrences.{never, literal_at, first_other, second_other}

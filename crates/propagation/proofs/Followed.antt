@@ -1,5 +1,5 @@
 -- What is pending, step by step: at the start of a search, after a decision, while one literal is followed up, and at the end.
-use Rattle.std.proofs.Common.{◌≡◌, ℕ, zero, suc, ◌+◌, ◌-◌, ◌*◌, ◌<◌, ◌≤◌, Bool, true, false, cond, not, ◌⊎◌, List, [], ◌∷◌, ◌++◌, length, get_or, take, drop, set, ℤ, pos, Some, None, Option, sym, refl, ap, ◌∙◌, subst, ap₂, inl, inr, true≢false, le_of_suc-le-suc, not-suc-le-zero, arith, length-append, length-drop, length-set, get_or-set_same}
+use Rattle.std.proofs.Common.{◌≡◌, ℕ, zero, suc, ◌+◌, ◌-◌, ◌*◌, ◌<◌, ◌≤◌, Bool, true, false, cond, not, ◌⊎◌, List, [], ◌∷◌, ◌++◌, length, get_or, take, drop, ℤ, pos, Some, None, Option, sym, refl, ap, ◌∙◌, subst, ap₂, inl, inr, true≢false, le_of_suc-le-suc, not-suc-le-zero, arith, length-append, length-drop, length-set, get_or-set_same}
 use mathlib.Core.Bool.{false≢true}
 use native.Mathlib.Decide.{dec_lt, ℕ_discrete}
 use lib.Seq.{drop-append-le}
@@ -10,11 +10,11 @@ use Rattle.solving.specs.declared.state.State.{State}
 use Rattle.solving.specs.declared.state.State.TheVariants.{Broken as broken, Lone as unit, Other as other}
 use Rattle.solving.specs.States.{joined, state_of}
 use Rattle.solving.specs.Closing.{or_broken, or_unit, violated, first_unit}
-use Rattle.solving.specs.Orders.{Stands, Reaches}
+use Rattle.solving.specs.Orders.{Reaches}
 use Rattle.solving.proofs.Places.{set_grows, open_inside, value_kept, some_inj, none_some}
 use Rattle.solving.proofs.Closed.{whole_head, still_head, unit_kept, unit_open, value_open}
-use Rattle.propagation.specs.Scanning.{foremost, clauses_from, Ends}
-use Rattle.propagation.specs.Occurrences.{key, against, last_before, start_of, nowhere, Linked, Spanned, Headed, Listed}
+use Rattle.propagation.specs.Scanning.{foremost, clauses_from}
+use Rattle.propagation.specs.Occurrences.{key, against, last_before, start_of, nowhere, Listed}
 use Rattle.propagation.specs.declared.occurrence.Occurrence.{Occurrence}
 use Rattle.propagation.specs.Trails.{Grown}
 use Rattle.propagation.specs.Following.{AtRest, Met, Inside, Pending, Looked, Left, Visiting, Pressed, rests, breaks, forces}

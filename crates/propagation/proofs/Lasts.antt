@@ -1,5 +1,5 @@
 -- The last place where a literal stands, among the first n.
-use Rattle.std.proofs.Common.{◌≡◌, ℕ, zero, suc, ◌+◌, ◌-◌, ◌<◌, ◌≤◌, Bool, true, false, cond, eqb, ◌≢◌, List, length, get_or, ℤ, pos, sym, refl, ap, ◌∙◌, subst, not-suc-le-zero, add-one, arith, eq-eqb, ne_eqb, eqb-true}
+use Rattle.std.proofs.Common.{◌≡◌, ℕ, zero, suc, ◌-◌, ◌<◌, ◌≤◌, cond, ◌≢◌, List, get_or, ℤ, pos, sym, refl, ap, ◌∙◌, subst, not-suc-le-zero, arith, eq-eqb, ne_eqb}
 use native.Mathlib.Decide.{ℕ_discrete}
 use Rattle.propagation.specs.Occurrences.{key, last_before}
 

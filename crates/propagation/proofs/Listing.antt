@@ -1,5 +1,5 @@
 -- One place more, and one clause more, in the lists of places.
-use Rattle.std.proofs.Common.{◌≡◌, ℕ, zero, suc, ◌+◌, ◌<◌, ◌≤◌, ◌≢◌, List, [], ◌∷◌, length, get_or, set, ℤ, pos, sym, refl, ap, ◌∙◌, subst, not-suc-le-zero, add-one, arith, length-set, get_or-set_other, get_or-set_same}
+use Rattle.std.proofs.Common.{◌≡◌, ℕ, ◌+◌, ◌<◌, ◌≤◌, ◌≢◌, List, length, get_or, set, ℤ, pos, sym, ap, ◌∙◌, subst, add-one, arith, length-set, get_or-set_other, get_or-set_same}
 use native.Mathlib.Decide.{ℕ_discrete}
 use Rattle.propagation.specs.Occurrences.{key, last_before, start_of, nowhere, literal_at, first_other, second_other, Headed, Linked, Paired, Spanned, Listed}
 use Rattle.propagation.specs.declared.occurrence.Occurrence.{Occurrence}

@@ -1,5 +1,5 @@
 -- Clauses in a row: the places of each, and which clause a place lies in.
-use Rattle.std.proofs.Common.{◌≡◌, ℕ, zero, suc, ◌+◌, ◌-◌, ◌<◌, ◌≤◌, List, [], ◌∷◌, length, get_or, take, drop, ℤ, pos, sym, refl, ap, ◌∙◌, ap₂, le_of_suc-le-suc, not-suc-le-zero, arith, length-drop, length-take, get_or-drop, get_or-take}
+use Rattle.std.proofs.Common.{◌≡◌, ℕ, zero, suc, ◌+◌, ◌-◌, ◌<◌, ◌≤◌, List, [], ◌∷◌, length, get_or, take, drop, ℤ, pos, sym, refl, ap, ◌∙◌, le_of_suc-le-suc, not-suc-le-zero, arith, length-drop, length-take, get_or-drop, get_or-take}
 use native.Mathlib.Decide.{dec_lt}
 use Rattle.solving.specs.Orders.{Stands, first, next}
 use Rattle.propagation.specs.Scanning.{clauses_from, Ends}

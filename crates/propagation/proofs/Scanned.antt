@@ -4,11 +4,10 @@ use Rattle.solving.specs.Settings.{Setting, at, value, made, open_in}
 use Rattle.solving.specs.declared.state.State.{State}
 use Rattle.solving.specs.declared.state.State.TheVariants.{Broken as broken, Lone as unit, Other as other}
 use Rattle.solving.specs.States.{joined, state_of}
-use Rattle.solving.specs.Literals.{place, wants}
+use Rattle.solving.specs.Literals.{place}
 use Rattle.solving.specs.Closing.{or_unit, or_broken, first_unit, violated}
 use Rattle.propagation.specs.Scanning.{or_later, foremost, clauses_from, Ends, combined}
 use Rattle.solving.proofs.Closed.{first_open, value_open, made_fewer}
-use Rattle.propagation.specs.declared.scan.Pressing.{Pressing}
 use Rattle.propagation.specs.declared.scan.Pressing.TheVariants.{Broken, Unit as Lone, Nothing}
 
 pub combined_joined : (s : State) (o : Option Bool) (l : ℤ) (r : State) → combined s (joined o l r) ≡ combined (joined o l s) r

@@ -1,5 +1,5 @@
 -- The trail: what growing it leaves of the setting.
-use Rattle.std.proofs.Common.{◌≡◌, ℕ, ◌+◌, ◌≤◌, Bool, false, List, [], ◌∷◌, ◌++◌, length, set, ℤ, Some, None, Option, sym, refl, ap, ◌∙◌, append_assoc, append-nil, arith, length-append, length-set, set-set}
+use Rattle.std.proofs.Common.{◌≡◌, ℕ, ◌≤◌, Bool, false, List, [], ◌∷◌, ◌++◌, length, set, ℤ, Some, None, Option, sym, refl, ap, ◌∙◌, append_assoc, append-nil, arith, length-append, length-set, set-set}
 use lib.Seq.{set-get_or}
 use Rattle.solving.specs.Settings.{Setting, at, made, open_in}
 use Rattle.solving.specs.Literals.{place, wants}

@@ -1,10 +1,10 @@
 -- A clause by weight: a true literal weighs 2, an open one 1, a false one nothing; from 2 on the clause is at rest.
 -- Making a literal true lightens only its negation.
-use Rattle.std.proofs.Common.{◌≡◌, ℕ, zero, suc, ◌+◌, ◌*◌, ◌<◌, ◌≤◌, min, Bool, true, false, cond, ◌⊎◌, List, [], ◌∷◌, length, get_or, set, ℤ, pos, Some, None, Option, sym, refl, ap, ◌∙◌, inl, inr, arith, get_or-set_other, get_or-set_same}
+use Rattle.std.proofs.Common.{◌≡◌, ℕ, zero, suc, ◌+◌, ◌<◌, ◌≤◌, min, Bool, true, false, ◌⊎◌, List, [], ◌∷◌, length, get_or, ℤ, pos, Some, None, Option, refl, ap, ◌∙◌, inl, inr, arith, get_or-set_other, get_or-set_same}
 use mathlib.Core.Bool.{beq}
 use native.Mathlib.Decide.{ℕ_discrete}
 use Rattle.solving.specs.Literals.{place, wants}
-use Rattle.solving.specs.Settings.{Setting, at, worth, value, made}
+use Rattle.solving.specs.Settings.{Setting, at, value, made}
 use Rattle.solving.specs.declared.state.State.{State}
 use Rattle.solving.specs.declared.state.State.TheVariants.{Broken as broken, Lone as unit, Other as other}
 use Rattle.solving.specs.States.{joined, state_of}

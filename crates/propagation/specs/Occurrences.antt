@@ -1,6 +1,6 @@
 -- Where literals stand in the row of clauses. Every literal has a number of its own; every place of the row knows its clause, and
 -- the last place before it where the same literal stands.
-use Rattle.std.specs.Prelude.{◌≡◌, ℕ, zero, suc, ◌+◌, ◌*◌, ◌<◌, ◌≤◌, cond, List, [], ◌∷◌, length, get_or, ℤ, pos, ◌==◌, nat_le, nat_lt, slice_index, slice_index_or}
+use Rattle.std.specs.Prelude.{◌≡◌, ℕ, zero, suc, ◌+◌, ◌*◌, ◌<◌, ◌≤◌, cond, List, ◌∷◌, length, get_or, ℤ, pos, ◌==◌, nat_le, nat_lt, slice_index, slice_index_or}
 use Rattle.solving.specs.Literals.{place, wants}
 use Rattle.propagation.specs.Scanning.{clauses_from, Ends}
 use Rattle.propagation.specs.declared.occurrence.Occurrence.{Occurrence}

@@ -1,5 +1,5 @@
 -- The trail of literals made true, and what undoing them leaves.
-use Rattle.std.specs.Prelude.{◌≡◌, ℕ, ◌+◌, List, [], ◌∷◌, ◌++◌, length, ℤ, None, slice_set}
+use Rattle.std.specs.Prelude.{◌≡◌, ◌+◌, List, [], ◌∷◌, ◌++◌, length, ℤ, None, slice_set}
 use Rattle.solving.specs.Literals.{place}
 use Rattle.solving.specs.Settings.{Setting, open_in}
 

@@ -1,5 +1,7 @@
 // Unit propagation: clauses in one row with the places where each literal stands, a setting with the trail of the literals made
 // true, and closure, which looks only at clauses in which a literal has just become false.
+#![tactic(auto)]
+
 mod clauses;
 pub mod close;
 mod fill;

@@ -1,5 +1,5 @@
 -- Every lawful card's canonical writing spells it: the commands keep the rules, one after the other, and declare the card.
-use Rattle.std.proofs.Common.{◌≡◌, ℕ, zero, suc, ◌+◌, ◌<◌, ◌≤◌, Bool, true, false, not, eqb, ltb, leb, List, [], ◌∷◌, ◌++◌, map, length, get_or, replicate, Ok, sym, refl, ap, ◌∙◌, subst, append_assoc, append-nil, arith, length-append}
+use Rattle.std.proofs.Common.{◌≡◌, ℕ, zero, suc, ◌+◌, ◌<◌, ◌≤◌, true, eqb, ltb, List, [], ◌∷◌, ◌++◌, map, length, get_or, replicate, Ok, sym, refl, ap, ◌∙◌, subst, append_assoc, append-nil, arith, length-append}
 use Rattle.std.proofs.lemmas.List.{get_or_append_left, get_or_at}
 use Rattle.std.proofs.lemmas.Bool.{and_from, and_parts, eq-eqb, lt-leb, ne_eqb, not_from_true, or_from}
 use Rattle.card.specs.declared.gate.Gate.{Gate}
@@ -9,12 +9,11 @@ use Rattle.reading.specs.Commands.{adds}
 use Rattle.card.specs.Functions.{pin_count}
 use Rattle.card.specs.Netlists.{Distinct, Lawful, Netlist, all_below, nets, pins_of}
 use Rattle.reading.specs.Reading.{nothing, reading}
-use Rattle.reading.specs.Rules.{Accepted, AllKeepRules, Begins, KeepsRules, all_spelled, declared_by}
+use Rattle.reading.specs.Rules.{Accepted, AllKeepRules, all_spelled, declared_by}
 use Rattle.reading.specs.Writing.{commands_of, written}
 use Rattle.reading.proofs.Pushes.{not_stands}
 use Rattle.reading.proofs.Judged.{kept_rules}
 use Rattle.reading.proofs.Ruled.{agree}
-use Rattle.reading.proofs.Steps.{Kept}
 
 never_end_input : AddInput ≡ End → ⊥
 never_end_input e = let z : ◌≡◌ {A = ℕ} 0 1 = cc in omega (arith, z)

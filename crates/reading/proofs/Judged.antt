@@ -1,5 +1,5 @@
 -- The fault of a command is the first rule that it breaks, and the first broken rule is its fault.
-use Rattle.std.proofs.Common.{◌≡◌, ℕ, ◌<◌, ◌≤◌, Bool, true, false, cond, eqb, ◌⊎◌, Some, None, Option, sym, refl, ap, ◌∙◌, subst, inl, inr, ⊎_elim, arith}
+use Rattle.std.proofs.Common.{◌≡◌, ℕ, true, false, eqb, Some, None, sym, refl, ◌∙◌, subst, ⊎_elim, arith}
 use Rattle.std.proofs.lemmas.Bool.{cond_both, cond-true, cond-false, eqb-true, true≢false}
 use Rattle.reading.specs.declared.command.Command.{Command}
 use Rattle.reading.specs.declared.fault.OperandFault.TheVariants.{Undeclared}

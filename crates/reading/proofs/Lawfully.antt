@@ -1,14 +1,13 @@
 -- Commands that keep the rules declare a lawful card, and every lawful card is declared by such commands.
-use Rattle.std.proofs.Common.{◌≡◌, ℕ, zero, suc, ◌+◌, ◌<◌, ◌≤◌, Bool, true, false, not, eqb, ltb, leb, List, [], ◌∷◌, ◌++◌, length, get_or, Ok, sym, refl, ap, ◌∙◌, subst, not-suc-le-zero, arith, length-append}
+use Rattle.std.proofs.Common.{◌≡◌, ℕ, ◌+◌, ◌≤◌, true, eqb, ltb, List, [], ◌∷◌, ◌++◌, length, Ok, sym, refl, ap, ◌∙◌, subst, not-suc-le-zero, arith, length-append}
 use Rattle.std.proofs.lemmas.Bool.{and_parts, eqb-true, leb-false, ltb-true, not-false, or_parts, true≢false}
-use Rattle.card.specs.declared.gate.Gate.{Gate}
 use Rattle.reading.specs.declared.command.Command.{Command}
 use Rattle.reading.specs.declared.command.Command.TheVariants.{AddInput, AddGate, AddOutput, End}
 use Rattle.reading.specs.Commands.{adds}
 use Rattle.card.specs.Functions.{pin_count}
 use Rattle.card.specs.Netlists.{Distinct, Lawful, Netlist, Ordered, PinsMatch, all_below, nets, pins_of}
 use Rattle.reading.specs.Reading.{nothing, reading}
-use Rattle.reading.specs.Rules.{Accepted, AllKeepRules, BreaksFirst, Bytes, KeepsRules, Refused, WellFormed, breaks, broken, cut, declared_by, ended, trailing, unknown}
+use Rattle.reading.specs.Rules.{Accepted, AllKeepRules, Bytes, KeepsRules, Refused, WellFormed, breaks, broken, cut, declared_by, ended, trailing, unknown}
 use Rattle.card.proofs.Below.{below_push, below_weaken}
 use Rattle.reading.proofs.Pushes.{distinct_push, each_push}
 use Rattle.reading.proofs.Ruled.{agree}

@@ -1,5 +1,5 @@
 -- Reading by the definition and reading by the rules agree: along commands that keep the rules, and at the command where they end.
-use Rattle.std.proofs.Common.{◌≡◌, ℕ, zero, suc, ◌+◌, ◌*◌, ◌<◌, ◌≤◌, Bool, true, false, cond, ltb, List, [], ◌∷◌, ◌++◌, length, get_or, drop, Some, None, Ok, Err, Option, Result, sym, refl, ap, ◌∙◌, subst, append_assoc, arith, length-append, length-drop}
+use Rattle.std.proofs.Common.{◌≡◌, ℕ, zero, suc, ◌+◌, ◌*◌, ◌<◌, ◌≤◌, true, false, ltb, List, [], ◌∷◌, ◌++◌, length, drop, Some, None, Ok, Err, Option, Result, sym, refl, ap, ◌∙◌, subst, append_assoc, arith, length-append, length-drop}
 use Rattle.std.proofs.lemmas.List.{drop_at, get_or-drop}
 use Rattle.std.proofs.lemmas.Bool.{cond_both, ltb-true, ltb-false}
 use Rattle.reading.specs.declared.command.Command.{Command}
@@ -9,11 +9,11 @@ use Rattle.reading.specs.declared.fault.CardFault.{CardFault}
 use Rattle.reading.specs.declared.fault.CardFault.TheVariants.{Unknown, Ended, Operand, Trailing}
 use Rattle.reading.specs.Commands.{adds, size_of, spelled}
 use Rattle.card.specs.Netlists.{Netlist}
-use Rattle.reading.specs.Reading.{accepted, bad, command_at, decoded, done, fault_of, judged, more, nothing, onward, read_from, reading, step_of}
+use Rattle.reading.specs.Reading.{accepted, command_at, decoded, fault_of, judged, nothing, onward, read_from, reading}
 use Rattle.reading.specs.Refusals.{refusal_number, refusal_offset}
 use Rattle.reading.specs.Rules.{Accepted, Agree, AllKeepRules, Begins, BreaksFirst, Bytes, KeepsRules, Refused, WellFormed, all_spelled, broken, cut, declared_by, ended, opens, operands_after, trailing, unknown}
 use Rattle.reading.proofs.Decoded.{Decoding, cut_decoded, cut_short, decoding, length_spelled, no_command, none_left, spelled_decoded, unknown_decoded, whole}
-use Rattle.reading.proofs.Judged.{Faults, Says, broken_faults, fault_says, keeps_rules, no_fault}
+use Rattle.reading.proofs.Judged.{broken_faults, fault_says, keeps_rules, no_fault}
 use Rattle.reading.proofs.Steps.{accepted_end, accepted_more, accepted_trailing, read_bad, read_done, read_more, step_accepted, step_broken, step_undecoded}
 
 -- where the reading stands after commands that keep the rules

@@ -5,7 +5,7 @@ use Rattle.std.proofs.lemmas.Bool.{cond-true, cond-false, lt-ltb, le-ltb}
 use Rattle.reading.specs.declared.command.Command.{Command}
 use Rattle.reading.specs.declared.command.Command.TheVariants.{AddInput, AddGate, AddOutput, End}
 use Rattle.reading.specs.declared.fault.CardFault.{CardFault}
-use Rattle.reading.specs.declared.fault.CardFault.TheVariants.{Trailing, Ended}
+use Rattle.reading.specs.declared.fault.CardFault.TheVariants.{Trailing}
 use Rattle.reading.specs.Commands.{adds, size_of, late, overfull, undeclared, repeated, incomplete}
 use Rattle.card.specs.Netlists.{Netlist}
 use Rattle.reading.specs.Reading.{Next, more, done, bad, Stepped, accepted, command_at, decoded, fault_of, judged, onward, read_from, step_of}

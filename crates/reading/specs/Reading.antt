@@ -1,8 +1,7 @@
 -- Reading as a definition that computes: what a run of card bytes says, command by command.
 -- The rules themselves, in words of commands and cards, stand in Rules; both are proved to agree.
-use Rattle.std.specs.Prelude.{◌≡◌, ℕ, zero, suc, ◌+◌, ◌-◌, ◌*◌, Bool, cond, ◌&&◌, List, [], length, drop, Some, None, Ok, Err, Option, Result, ◌==◌, nat_le, nat_lt, slice_index}
+use Rattle.std.specs.Prelude.{◌≡◌, ℕ, zero, suc, ◌+◌, ◌-◌, ◌*◌, cond, ◌&&◌, List, [], length, drop, Some, None, Ok, Err, Option, Result, ◌==◌, nat_le, nat_lt, slice_index}
 use Rattle.card.specs.declared.function.Function.{Function}
-use Rattle.card.specs.declared.gate.Gate.{Gate}
 use Rattle.card.specs.declared.gate.Operands.{Operands}
 use Rattle.card.specs.declared.gate.Operands.TheVariants.{None as NoOperand, One, Two}
 use Rattle.reading.specs.declared.command.Command.{Command}

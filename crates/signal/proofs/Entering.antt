@@ -1,11 +1,11 @@
 -- The inputs as the walk enters them: as they are, but for one that sticks.
 -- The definition goes over all inputs; the code writes at most one, and these lemmas say that it is the same.
-use Rattle.std.proofs.Common.{◌≡◌, ℕ, zero, suc, ◌+◌, ◌<◌, ◌≤◌, Bool, true, false, cond, eqb, List, [], ◌∷◌, length, get_or, take, set, Some, None, Option, sym, refl, ap, ◌∙◌, ap₂, add-zero, add-suc, suc-add, arith, length-take, eq-eqb, ne_eqb}
+use Rattle.std.proofs.Common.{◌≡◌, ℕ, zero, suc, ◌+◌, ◌<◌, ◌≤◌, false, cond, List, [], ◌∷◌, length, get_or, take, set, Some, None, Option, sym, refl, ap, ◌∙◌, ap₂, add-zero, add-suc, suc-add, arith, length-take, eq-eqb, ne_eqb}
 use lib.Seq.{take-set-lt, set_out}
 use Rattle.signal.specs.declared.line.Line.TheVariants.{Net, Pin}
 use Rattle.signal.specs.declared.line.Stuck.{Stuck}
 use Rattle.signal.specs.Operations.{Operations}
-use Rattle.signal.specs.Walks.{is_net, sticks_net, level_of, entered, unless_stuck}
+use Rattle.signal.specs.Walks.{is_net, sticks_net, entered, unless_stuck}
 
 module _ {S : Type 0} (o : Operations S) where
   pub length_entered : (t : Option Stuck) (j : ℕ) (xs : List S) → length (entered o t j xs) ≡ length xs

@@ -1,6 +1,6 @@
 -- Each function means at bits what its name says, for any number of pins.
 -- The pins are joined from the left, so each lemma follows the fold.
-use Rattle.std.proofs.Common.{◌≡◌, ℕ, suc, ◌+◌, ◌%◌, ◌≤◌, Bool, true, false, not, ◌&&◌, ◌||◌, ◌↔◌, List, [], ◌∷◌, length, sym, refl, ap, ◌∙◌, arith}
+use Rattle.std.proofs.Common.{◌≡◌, suc, ◌%◌, ◌≤◌, Bool, true, false, ◌&&◌, ◌||◌, ◌↔◌, List, [], ◌∷◌, length, sym, refl, ap, ◌∙◌, arith}
 use mathlib.Core.Bool.{false≢true}
 use Rattle.card.specs.declared.function.Function.TheVariants.{And2, Or2, Xor2}
 use Rattle.signal.specs.Operations.{bit_operations, differ}

@@ -1,6 +1,6 @@
 -- The nets of a walk one by one: how many there are, that the inputs come first, and that each gate's net has its gate's value.
 -- The gate's value is taken at the whole list of nets, so that a reader need not know how far the walk had come.
-use Rattle.std.proofs.Common.{◌≡◌, ℕ, zero, suc, ◌+◌, ◌<◌, ◌≤◌, Bool, true, List, [], ◌∷◌, ◌++◌, length, get_or, take, Option, sym, refl, ap, ◌∙◌, ap₂, append_assoc, add-zero, add-suc, suc-add, arith, length-append, take_at}
+use Rattle.std.proofs.Common.{◌≡◌, ℕ, zero, suc, ◌+◌, ◌<◌, true, List, [], ◌∷◌, ◌++◌, length, get_or, take, Option, sym, refl, ap, ◌∙◌, append_assoc, add-zero, add-suc, suc-add, arith, length-append, take_at}
 use Rattle.std.proofs.lemmas.List.{append-nil, get_or_append_left, get_or_push}
 use Rattle.card.specs.declared.gate.Gate.{Gate}
 use Rattle.card.specs.declared.function.Function.{Function}
@@ -10,7 +10,7 @@ use Rattle.signal.specs.declared.line.Stuck.{Stuck}
 use Rattle.signal.specs.Operations.{Operations}
 use Rattle.signal.specs.Gates.{joined, truth}
 use Rattle.signal.specs.Joins.{joins, unit, ended}
-use Rattle.signal.specs.Walks.{unless_stuck, sticks_net, pin_values, gate_net, walked, entered, net_values}
+use Rattle.signal.specs.Walks.{unless_stuck, sticks_net, gate_net, walked, entered, net_values}
 use Rattle.signal.proofs.Entering.{length_entered, entered_at}
 use Rattle.signal.proofs.Steps.{gate_of_front}
 

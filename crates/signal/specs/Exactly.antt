@@ -5,10 +5,10 @@ use Rattle.std.proofs.Common.{sym, ◌∙◌, ap, ap₂, subst}
 use Rattle.card.specs.declared.function.Function.{Function}
 use Rattle.card.specs.declared.function.Function.TheVariants.{Ida, And2, Or2, Xor2, Inva, Nand2, Nor2, Xnor2, Zero, One}
 use Rattle.signal.specs.Operations.{Operations, bit_operations, differ}
-use Rattle.signal.specs.Laws.{Inhabited, Only, Kept, Sound, Definite}
+use Rattle.signal.specs.Laws.{Inhabited, Only, Definite}
 use Rattle.signal.specs.Gates.{folded, joined, truth}
 use Rattle.signal.specs.Lists.{Everywhere}
-use Rattle.signal.specs.Exacts.{MadeOfOne, MadeOfTwo, MadeOfPins, Exact, GatesExact}
+use Rattle.signal.specs.Exacts.{MadeOfTwo, MadeOfPins, Exact, GatesExact}
 use Rattle.signal.specs.Keeping.{truth_kept}
 
 module _ {S : Type 0} (allows : S → Bool → Type 0) where

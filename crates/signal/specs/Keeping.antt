@@ -1,6 +1,6 @@
 -- A walk keeps every relation between values and bits that the operations keep.
 -- It is the one induction behind both promises of `walk`, at `allows` and at `Only allows`.
-use Rattle.std.specs.Prelude.{◌≡◌, ℕ, suc, Bool, true, false, not, ◌&&◌, ◌||◌, List, [], ◌∷◌, ◌++◌, get_or, Option}
+use Rattle.std.specs.Prelude.{◌≡◌, ℕ, suc, Bool, true, false, ◌&&◌, ◌||◌, List, [], ◌∷◌, Option}
 use Rattle.std.proofs.Common.{subst, sym}
 use Rattle.card.specs.declared.gate.Gate.{Gate}
 use Rattle.card.specs.declared.function.Function.{Function}

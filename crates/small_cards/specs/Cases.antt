@@ -1,6 +1,5 @@
 -- The worked cases, each by the definitions that the contracts of the calls use.
-use Rattle.std.specs.Prelude.{◌≡◌, ℕ, true, false, List, [], ◌∷◌, ◌++◌, length, replicate, Some, Ok, Err}
-use Rattle.card.specs.Netlists.{Netlist}
+use Rattle.std.specs.Prelude.{◌≡◌, true, false, [], ◌∷◌, ◌++◌, length, replicate, Some, Ok, Err}
 use Rattle.card.specs.Parts.{netlist_from, smallest}
 use Rattle.reading.specs.Reading.{reading}
 use Rattle.reading.specs.declared.fault.CardFault.TheVariants.{Ended, Incomplete, Limit, NamedTwice, Operand}

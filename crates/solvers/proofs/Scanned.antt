@@ -1,14 +1,13 @@
 -- The scan against the first pressing clause, and closure by what it says.
-use Rattle.std.proofs.Common.{◌≡◌, ℕ, zero, suc, ◌+◌, ◌-◌, ◌<◌, ◌≤◌, Bool, true, false, not, List, [], ◌∷◌, length, get_or, take, drop, ℤ, pos, Some, None, Option, sym, refl, ap, ◌∙◌, true≢false, le_of_suc-le-suc, not-suc-le-zero, add-one, arith, drop_of_length-le, drop-cons}
+use Rattle.std.proofs.Common.{◌≡◌, ℕ, zero, suc, ◌+◌, ◌-◌, ◌<◌, ◌≤◌, Bool, true, false, List, [], ◌∷◌, length, get_or, take, drop, ℤ, pos, Some, None, Option, sym, refl, ap, ◌∙◌, add-one, arith, drop_of_length-le, drop-cons}
 use Rattle.solving.specs.Settings.{Setting, at, value, made, open_in}
 use Rattle.solving.specs.declared.state.State.{State}
 use Rattle.solving.specs.declared.state.State.TheVariants.{Broken as broken, Lone as unit, Other as other}
 use Rattle.solving.specs.States.{joined, state_of}
-use Rattle.solving.specs.Literals.{place, wants}
+use Rattle.solving.specs.Literals.{place}
 use Rattle.solving.specs.Closing.{or_unit, or_broken, first_unit, violated, closure, units, onward}
 use Rattle.solvers.specs.Scanning.{or_later, foremost, clauses_from, Ends, combined}
-use Rattle.solving.proofs.Closed.{broken_unit, other_unit, other_broken, first_open, value_open, made_fewer, violated_kept, open_most}
-use Rattle.solvers.specs.declared.scan.Pressing.{Pressing}
+use Rattle.solving.proofs.Closed.{first_open, value_open, made_fewer, violated_kept, open_most}
 use Rattle.solvers.specs.declared.scan.Pressing.TheVariants.{Broken, Unit as Lone, Nothing}
 use Rattle.solving.proofs.Closures.{closure_grows}
 

@@ -1,5 +1,5 @@
 -- The trail of literals made true, the decisions that say where on it they were made, and what undoing them leaves.
-use Rattle.std.specs.Prelude.{◌≡◌, ℕ, suc, ◌+◌, ◌≤◌, Bool, true, false, List, [], ◌∷◌, ◌++◌, map, length, drop, ℤ, None, slice_set}
+use Rattle.std.specs.Prelude.{◌≡◌, ℕ, suc, ◌+◌, ◌≤◌, false, List, [], ◌∷◌, ◌++◌, map, length, drop, ℤ, None, slice_set}
 use Rattle.solving.specs.Literals.{place}
 use Rattle.solving.specs.Settings.{Setting, open_in}
 use Rattle.solvers.specs.declared.decision.Decision.{Decision}

@@ -1,12 +1,12 @@
 -- One lemma behind closure: where T has no clause false throughout and no unit clause, a setting within T stays within T.
-use Rattle.std.proofs.Common.{◌≡◌, ℕ, zero, suc, ◌+◌, ◌<◌, ◌≤◌, Bool, true, false, cond, ◌&&◌, ◌||◌, List, [], ◌∷◌, map, length, get_or, set, ℤ, pos, negsuc, Some, None, Option, sym, refl, ap, ◌∙◌, true≢false, arith, length-set}
+use Rattle.std.proofs.Common.{◌≡◌, ℕ, zero, suc, ◌≤◌, Bool, true, false, cond, ◌&&◌, ◌||◌, List, [], ◌∷◌, length, get_or, ℤ, Some, None, Option, sym, refl, ap, ◌∙◌, true≢false, arith, length-set}
 use mathlib.Core.Bool.{beq, false≢true}
-use Rattle.solving.specs.Settings.{Setting, at, worth, value, made, open_one, open_in, Within, full, reading_of, bit_of}
+use Rattle.solving.specs.Settings.{Setting, at, worth, value, made, open_in, Within, full}
 use Rattle.solving.specs.Literals.{place, wants}
 use Rattle.solving.specs.States.{State, broken, unit, other, joined, state_of}
 use Rattle.solving.specs.Readings.{holds, satisfies}
-use Rattle.solving.specs.Closing.{or_unit, first_unit, or_broken, violated, onward, units, closure}
-use Rattle.solving.proofs.Places.{some_none, none_some, some_inj, beq_true, value_kept, set_within, set_grows, open_inside, open_falls, full_at, full_reading, within_refl, within_trans}
+use Rattle.solving.specs.Closing.{or_unit, first_unit, or_broken, violated, onward, units}
+use Rattle.solving.proofs.Places.{some_none, none_some, some_inj, beq_true, value_kept, set_within, set_grows, open_inside, open_falls, full_at, within_refl, within_trans}
 
 pub broken_unit : {l : ℤ} → broken ≡ unit l → ⊥
 broken_unit {l} e = let z : ◌≡◌ {A = ℕ} 0 1 = cc in omega arith

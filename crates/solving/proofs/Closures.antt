@@ -1,8 +1,7 @@
 -- The theorems of closure.
-use Rattle.std.proofs.Common.{◌≡◌, ℕ, ◌≤◌, Bool, true, false, List, [], ◌∷◌, length, ℤ, sym, refl, ap, ◌∙◌}
-use Rattle.solving.specs.Settings.{Setting, Within, full, reading_of, open_in}
-use Rattle.solving.specs.Readings.{satisfies}
-use Rattle.solving.specs.Closing.{closure, violated, first_unit}
+use Rattle.std.proofs.Common.{◌≡◌, false, List, length, ℤ}
+use Rattle.solving.specs.Settings.{Setting, Within, full, reading_of}
+use Rattle.solving.specs.Closing.{closure, violated}
 use Rattle.solving.specs.ClosureLaws.{Keeps, Settles, Rests, Monotone}
 use Rattle.solving.proofs.Places.{full_reading, within_trans}
 use Rattle.solving.proofs.Closed.{Closed, units_within, units_grow, units_length, units_still, open_most, full_closed, whole_satisfies, not_violated}

@@ -1,18 +1,16 @@
 -- A led formula is settled within 2^(k+1) - 2 steps.
-use Rattle.std.proofs.Common.{◌≡◌, ℕ, zero, suc, ◌+◌, ◌-◌, ◌*◌, ◌^◌, ◌<◌, ◌≤◌, Bool, true, false, not, ltb, ◌⊎◌, List, [], ◌∷◌, ◌++◌, map, length, get_or, take, set, replicate, ℤ, Some, None, Option, sym, refl, ap, ◌∙◌, subst, inl, inr, true≢false, le_of_suc-le-suc, not-suc-le-zero, pow-suc, add-one, arith, length-append, length-set, ltb-false, ltb-true}
-use mathlib.Core.Bool.{false≢true}
+use Rattle.std.proofs.Common.{◌≡◌, ℕ, zero, suc, ◌+◌, ◌-◌, ◌^◌, ◌<◌, ◌≤◌, Bool, true, false, not, ltb, ◌⊎◌, List, [], ◌∷◌, ◌++◌, length, get_or, take, set, replicate, ℤ, Some, None, Option, sym, refl, ap, ◌∙◌, inl, inr, true≢false, le_of_suc-le-suc, not-suc-le-zero, pow-suc, add-one, arith, length-append, length-set, ltb-false}
 use native.Mathlib.Decide.{dec_lt}
 use lib.ListN.{length-map, length-replicate}
-use Rattle.solving.specs.Settings.{Setting, at, Within, full, reading_of, bit_of, open_one, open_in}
-use Rattle.solving.specs.Readings.{satisfies}
-use Rattle.solving.specs.Closing.{closure, violated, first_unit}
+use Rattle.solving.specs.Settings.{Setting, at, Within, full, reading_of, open_in}
+use Rattle.solving.specs.Closing.{closure, violated}
 use Rattle.solving.specs.Leading.{leads, Led}
-use Rattle.solving.specs.Trials.{Answer, found, none, undecided, steps_of, while, step, or_else}
-use Rattle.solving.specs.Backtracking.{Rule, Choice, unless_broken, chosen, both, level, descend, backtracking, lowest, lowest_open, to_zero, or_here, later}
+use Rattle.solving.specs.Trials.{Answer, found, none, undecided, while, step, or_else}
+use Rattle.solving.specs.Backtracking.{Rule, Choice, unless_broken, chosen, both, descend, lowest_open, to_zero, later}
 use Rattle.solving.specs.SearchLaws.{Picks, Leads, Decided, Lowest, Settled}
-use Rattle.solving.proofs.Places.{some_none, none_some, some_inj, within_trans, set_grows, open_falls, open_inside, open_le, open_some}
-use Rattle.solving.proofs.Closed.{Closed, violated_kept, open_most}
-use Rattle.solving.proofs.Closures.{closure_within, closure_grows, closure_length, rests, closed_closure}
+use Rattle.solving.proofs.Places.{some_none, none_some, some_inj, open_falls, open_inside, open_le, open_some}
+use Rattle.solving.proofs.Closed.{Closed, violated_kept}
+use Rattle.solving.proofs.Closures.{closure_within, closure_grows, closure_length, closed_closure}
 
 -- the lowest open variable
 later_none : (o : Option ℕ) → later o ≡ None → o ≡ None

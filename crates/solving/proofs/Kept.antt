@@ -1,22 +1,20 @@
 -- Both solvers keep the promises.
-use Rattle.std.proofs.Common.{◌≡◌, ℕ, zero, suc, ◌+◌, ◌-◌, ◌*◌, ◌^◌, ◌<◌, ◌≤◌, Bool, true, false, List, [], ◌∷◌, ◌++◌, map, length, take, replicate, ℤ, Some, None, sym, refl, ap, ◌∙◌, true≢false, pow-suc, add-one, arith, pow_mono}
+use Rattle.std.proofs.Common.{◌≡◌, ℕ, zero, suc, ◌+◌, ◌-◌, ◌^◌, ◌≤◌, Bool, true, List, [], ◌∷◌, length, take, replicate, ℤ, Some, None, sym, refl, ◌∙◌, true≢false, pow-suc, add-one, arith, pow_mono}
 use lib.ListN.{length-map, length-replicate}
-use Rattle.solving.specs.Settings.{Setting, Within, full, reading_of, open_one, open_in}
+use Rattle.solving.specs.Settings.{Within, full, reading_of, open_in}
 use Rattle.solving.specs.Readings.{satisfies}
-use Rattle.solving.specs.Closing.{closure, violated}
-use Rattle.solving.specs.Leading.{leads, Led}
+use Rattle.solving.specs.Leading.{leads}
 use Rattle.solving.specs.Trials.{Answer, found, none, undecided, steps_of}
 use Rattle.solving.specs.Backtracking.{backtracking, lowest}
 use Rattle.solving.specs.Counting.{try_each, settings, counting}
-use Rattle.solving.specs.SearchLaws.{Sound, Whole, Counted, Decided}
-use Rattle.solving.specs.Models.{Model}
+use Rattle.solving.specs.SearchLaws.{Sound, Counted}
 use Rattle.solving.specs.Promises.{BacktrackingAnswers, CountingAnswers}
 use Rattle.solving.specs.Backtracking.{backtracked}
 use Rattle.solving.specs.Counting.{counted}
-use Rattle.solving.proofs.Outcomes.{Read, Promised, Solves, answers}
+use Rattle.solving.proofs.Outcomes.{Promised, Solves, answers}
 use Rattle.solving.proofs.Closures.{keeps}
 use Rattle.solving.proofs.Sounds.{backtracks}
-use Rattle.solving.proofs.Costs.{settled, lowest_law, open_within, leads_within, lead_length, decided_weaker, cost_power}
+use Rattle.solving.proofs.Costs.{settled, lowest_law, open_within, leads_within, lead_length, decided_weaker}
 use Rattle.solving.proofs.Tallies.{Tally, Among, among_settings, settings_long, settings_length, tallied, each_steps, each_decided}
 
 fresh_within : (v : ℕ) (r : List Bool) → length r ≡ v → Within (replicate v None) (full r)

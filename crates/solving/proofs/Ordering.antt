@@ -1,13 +1,13 @@
 -- Closure ends the same in any order: whatever is reached stays within a closed setting, and two ends that lie within each other are one.
-use Rattle.std.proofs.Common.{◌≡◌, ℕ, zero, suc, ◌<◌, Bool, true, false, List, [], ◌∷◌, length, set, ℤ, Some, None, Option, sym, refl, ap, ◌∙◌, true≢false, length-set, ext_get_or}
+use Rattle.std.proofs.Common.{◌≡◌, Bool, true, false, List, length, ℤ, Some, None, Option, sym, refl, ◌∙◌, true≢false, length-set, ext_get_or}
 use Rattle.solving.specs.Settings.{Setting, at, Within, made, value}
-use Rattle.solving.specs.States.{state_of, unit, State}
+use Rattle.solving.specs.States.{state_of, unit}
 use Rattle.solving.specs.Literals.{place, wants}
 use Rattle.solving.specs.Closing.{violated, closure, first_unit}
-use Rattle.solving.specs.Orders.{Stands, first, next, Reaches, stop, take, Orderless, AnyOrder}
-use Rattle.solving.proofs.Places.{some_none, none_some, set_within, set_grows, within_refl, within_trans}
+use Rattle.solving.specs.Orders.{Stands, first, next, Reaches, stop, take, AnyOrder}
+use Rattle.solving.proofs.Places.{set_within, set_grows, within_refl, within_trans}
 use Rattle.solving.proofs.Closed.{Closed, closed_tail, whole_head, still_head, true_left, unit_kept, unit_open, value_open, value_true, violated_kept, not_violated}
-use Rattle.solving.proofs.Closures.{closure_within, closure_grows, closure_length, rests, closed_closure}
+use Rattle.solving.proofs.Closures.{closure_within, closure_grows, closure_length, closed_closure}
 
 stands_forced : (a t : Setting) (c : List ℤ) (l : ℤ) {cs : List (List ℤ)} → Stands c cs → Within a t → Closed cs t → state_of a c ≡ unit l → value t l ≡ Some true
 stands_forced a t c l (first {cs = cs}) w k e =

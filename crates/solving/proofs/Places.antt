@@ -1,9 +1,9 @@
 -- Places of settings: reading, writing, try_each the open ones.
-use Rattle.std.proofs.Common.{◌≡◌, ℕ, zero, suc, ◌+◌, ◌<◌, ◌≤◌, Bool, true, false, not, ◌≢◌, List, [], ◌∷◌, map, length, get_or, set, ℤ, pos, negsuc, Some, None, Option, sym, refl, ap, ◌∙◌, true≢false, le_of_suc-le-suc, not-suc-le-zero, arith, length-set, get_or-set_other, get_or-set_same}
+use Rattle.std.proofs.Common.{◌≡◌, ℕ, zero, suc, ◌<◌, ◌≤◌, Bool, true, false, List, [], ◌∷◌, length, get_or, set, ℤ, Some, None, Option, sym, refl, ap, ◌∙◌, le_of_suc-le-suc, not-suc-le-zero, arith, get_or-set_other, get_or-set_same}
 use mathlib.Core.Bool.{beq, false≢true}
 use native.Mathlib.Decide.{ℕ_discrete}
 use lib.ListN.{get_or-map}
-use Rattle.solving.specs.Settings.{Setting, at, worth, value, made, open_one, open_in, Within, full, reading_of, bit_of}
+use Rattle.solving.specs.Settings.{Setting, at, worth, value, open_one, open_in, Within, full, reading_of, bit_of}
 use Rattle.solving.specs.Literals.{place, wants}
 
 pub some_none : {A : Type 0} {x : A} → Some x ≡ None → ⊥

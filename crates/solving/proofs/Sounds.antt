@@ -1,14 +1,13 @@
 -- Backtracking: found satisfies, none is none, the steps stay within the budget.
-use Rattle.std.proofs.Common.{◌≡◌, ℕ, zero, suc, ◌+◌, ◌<◌, ◌≤◌, Bool, true, false, not, ltb, List, [], ◌∷◌, length, get_or, set, ℤ, Some, None, Option, sym, refl, ap, ◌∙◌, subst, true≢false, le_of_suc-le-suc, arith, length-set, ltb-false, ltb-true}
-use mathlib.Core.Bool.{false≢true}
-use Rattle.solving.specs.Settings.{Setting, at, Within, full, reading_of, open_in}
+use Rattle.std.proofs.Common.{◌≡◌, ℕ, zero, suc, ◌≤◌, Bool, true, false, not, ltb, List, length, get_or, set, ℤ, Some, None, Option, sym, refl, ap, ◌∙◌, true≢false, arith, length-set, ltb-false, ltb-true}
+use Rattle.solving.specs.Settings.{Setting, at, Within, full, open_in}
 use Rattle.solving.specs.Readings.{satisfies}
-use Rattle.solving.specs.Closing.{closure, violated, first_unit}
-use Rattle.solving.specs.Trials.{Answer, found, none, undecided, steps_of, while, step, or_else}
-use Rattle.solving.specs.Backtracking.{Rule, Choice, unless_broken, chosen, both, level, descend, backtracking, lowest, lowest_open, to_zero, or_here, later}
-use Rattle.solving.specs.SearchLaws.{Picks, Leads, Whole, Sound, Counted, Backtracks, Lowest}
-use Rattle.solving.proofs.Places.{some_none, none_some, some_inj, within_trans, set_grows, set_within, open_falls, open_inside, open_le, full_at}
-use Rattle.solving.proofs.Closures.{closure_within, closure_grows, closure_length, rests, closed_closure, keeps, settles}
+use Rattle.solving.specs.Closing.{closure, violated}
+use Rattle.solving.specs.Trials.{Answer, found, none, undecided, while, step, or_else}
+use Rattle.solving.specs.Backtracking.{Rule, Choice, unless_broken, chosen, both, descend}
+use Rattle.solving.specs.SearchLaws.{Picks, Whole, Sound, Counted, Backtracks}
+use Rattle.solving.proofs.Places.{within_trans, set_grows, set_within, open_falls, open_inside, open_le, full_at}
+use Rattle.solving.proofs.Closures.{closure_grows, closure_length, keeps, settles}
 
 module _ (cs : List (List ℤ)) where
   sound_while : (a : Setting) (x : Bool) (s : ℕ) (k : ℕ → Answer) → ((t : ℕ) → Sound cs a (k t)) → Sound cs a (while x s k)

@@ -1,10 +1,8 @@
 -- Counting: every leading setting is tried in its turn.
-use Rattle.std.proofs.Common.{◌≡◌, ℕ, zero, suc, ◌+◌, ◌-◌, ◌*◌, ◌^◌, ◌<◌, ◌≤◌, Bool, true, false, eqb, ltb, ◌⊎◌, List, [], ◌∷◌, ◌++◌, map, length, ℤ, sym, refl, ap, ◌∙◌, subst, inl, inr, true≢false, le_of_suc-le-suc, not-suc-le-zero, pow-suc, arith, length-append, ltb-false, ltb-true, eqb-true}
-use mathlib.Core.Bool.{false≢true}
+use Rattle.std.proofs.Common.{◌≡◌, ℕ, zero, suc, ◌+◌, ◌^◌, ◌≤◌, Bool, true, false, eqb, ltb, ◌⊎◌, List, [], ◌∷◌, ◌++◌, map, length, ℤ, sym, refl, ap, ◌∙◌, inl, inr, true≢false, pow-suc, arith, length-append, ltb-true, eqb-true}
 use borrow.Author.Tests.{eqb-false}
 use lib.ListN.{length-map}
-use Rattle.solving.specs.Settings.{Setting, at, Within, full, reading_of, open_in}
-use Rattle.solving.specs.Readings.{satisfies}
+use Rattle.solving.specs.Settings.{Setting, open_in}
 use Rattle.solving.specs.Closing.{closure, violated}
 use Rattle.solving.specs.Leading.{leads, Led}
 use Rattle.solving.specs.Trials.{Answer, found, none, undecided, steps_of, while, step, or_else}

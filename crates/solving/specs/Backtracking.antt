@@ -1,6 +1,6 @@
 -- Backtracking, by a rule for the next variable and its first bit: close; where nothing is violated and a variable is open,
 -- try both bits of the one that the rule picks, each for a step.
-use Rattle.std.specs.Prelude.{ℕ, zero, suc, Bool, true, false, not, List, [], ◌∷◌, length, set, replicate, ℤ, Some, None, Option, slice_set}
+use Rattle.std.specs.Prelude.{ℕ, zero, suc, Bool, true, false, not, List, [], ◌∷◌, length, replicate, ℤ, Some, None, Option, slice_set}
 use Rattle.solving.specs.Settings.{Setting, open_in}
 use Rattle.solving.specs.Closing.{violated, closure}
 use Rattle.solving.specs.Models.{Model}

@@ -1,5 +1,5 @@
 -- The laws of closure.
-use Rattle.std.specs.Prelude.{◌≡◌, Bool, true, false, List, length, ℤ, None}
+use Rattle.std.specs.Prelude.{◌≡◌, Bool, false, List, length, ℤ, None}
 use Rattle.solving.specs.Readings.{Satisfies}
 use Rattle.solving.specs.Settings.{Setting, open_in, Within, full, reading_of}
 use Rattle.solving.specs.Closing.{violated, closure, first_unit}

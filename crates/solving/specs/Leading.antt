@@ -1,5 +1,5 @@
 -- A formula is led if, from each setting of exactly the leading variables, closure ends violated or sets every variable.
-use Rattle.std.specs.Prelude.{◌≡◌, ℕ, ◌+◌, ◌-◌, ◌^◌, Bool, true, false, ◌⊎◌, List, [], ◌∷◌, ◌++◌, length, replicate, ℤ, None}
+use Rattle.std.specs.Prelude.{◌≡◌, ℕ, ◌+◌, ◌-◌, ◌^◌, Bool, true, ◌⊎◌, List, ◌++◌, length, replicate, ℤ, None}
 use Rattle.solving.specs.Settings.{Setting, full, open_in}
 use Rattle.solving.specs.Closing.{violated, closure}
 

@@ -1,5 +1,5 @@
 -- What a solver holds: variables, how many of them lead, clauses, and a reading or none; and when it takes more.
-use Rattle.std.specs.Prelude.{ℕ, ◌+◌, Bool, ◌&&◌, List, [], ◌∷◌, ◌++◌, length, ℤ, Some, None, Option, nat_le}
+use Rattle.std.specs.Prelude.{ℕ, ◌+◌, Bool, ◌&&◌, List, [], ◌∷◌, ◌++◌, length, ℤ, None, Option, nat_le}
 use Rattle.solving.specs.Literals.{all_in_range, places}
 
 pub record Model : Type 0 where

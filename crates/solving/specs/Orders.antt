@@ -1,5 +1,5 @@
 -- Closure in any order: unit clauses taken one after another, whichever comes first.
-use Rattle.std.specs.Prelude.{◌≡◌, Bool, true, false, List, [], ◌∷◌, ℤ, None}
+use Rattle.std.specs.Prelude.{◌≡◌, true, false, List, ◌∷◌, ℤ, None}
 use Rattle.solving.specs.Settings.{Setting, made}
 use Rattle.solving.specs.States.{state_of, unit}
 use Rattle.solving.specs.Closing.{violated, closure, first_unit}

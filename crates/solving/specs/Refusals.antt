@@ -1,5 +1,5 @@
 -- What start, append and value answer, and the number of each refusal.
-use Rattle.std.specs.Prelude.{ℕ, ◌-◌, Bool, true, false, cond, ◌&&◌, List, ℤ, Some, None, Ok, Err, Option, Result, nat_le, slice_index_or}
+use Rattle.std.specs.Prelude.{ℕ, ◌-◌, Bool, false, cond, ◌&&◌, List, ℤ, Some, None, Ok, Err, Option, Result, nat_le, slice_index_or}
 use Rattle.solving.specs.Literals.{all_in_range}
 use Rattle.solving.specs.Models.{Model, startable, room_for}
 use Rattle.solving.specs.declared.fault.StartFault.{StartFault}

@@ -1,6 +1,6 @@
 -- A setting gives some variables a bit; the others are open.
 -- Past its end a variable reads as 0 and is never open, so no law needs a literal to be in range.
-use Rattle.std.specs.Prelude.{◌≡◌, ℕ, zero, suc, ◌+◌, Bool, true, false, List, [], ◌∷◌, map, ℤ, Some, None, Option, slice_index_or, slice_set}
+use Rattle.std.specs.Prelude.{◌≡◌, ℕ, zero, suc, ◌+◌, Bool, false, List, [], ◌∷◌, map, ℤ, Some, None, Option, slice_index_or, slice_set}
 use Rattle.std.specs.Bool.{beq}
 use Rattle.solving.specs.Literals.{place, wants}
 

@@ -1,15 +1,14 @@
 -- The tester's answer, from what reading, the vector's form and the room for characters say.
-use Rattle.std.proofs.Common.{◌≡◌, ℕ, ◌+◌, Bool, true, false, cond, leb, List, length, is_ok, IfErr, Ok, Err, Result, sym, refl, ap, ◌∙◌, arith, MatchResult}
+use Rattle.std.proofs.Common.{◌≡◌, ℕ, true, false, cond, leb, List, length, is_ok, IfErr, Ok, Err, Result, sym, refl, ap, ◌∙◌, arith, MatchResult}
 use Rattle.std.proofs.lemmas.Bool.{cond-false, cond-true}
 use Rattle.reading.specs.declared.fault.CardFault.{CardFault}
 use Rattle.reading.specs.declared.fault.CardFault.TheVariants.{Unknown, Ended, Operand, LateInput, Limit, NamedTwice, Incomplete, Trailing, Memory}
 use Rattle.reading.specs.declared.fault.OperandFault.TheVariants.{Cut, Undeclared}
 use Rattle.card.specs.Netlists.{Netlist}
-use Rattle.reading.specs.Refusals.{refusal_number}
 use Rattle.vectors.specs.declared.fault.VectorFault.TheVariants.{NotInForm}
 use Rattle.vectors.specs.Vectors.{Cells, holding, in_form}
 use Rattle.tester.specs.Characters.{characters}
-use Rattle.tester.specs.Expecting.{answer_of, code_of, expectation, left_in, no_memory, over, shown_in}
+use Rattle.tester.specs.Expecting.{answer_of, expectation, left_in, no_memory, over, shown_in}
 use Rattle.tester.specs.Refusals.{tester_number}
 use Rattle.tester.specs.declared.fault.TesterFault.{TesterFault}
 use Rattle.tester.specs.declared.fault.TesterFault.TheVariants.{Card, Vector, Room}

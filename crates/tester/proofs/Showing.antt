@@ -1,5 +1,5 @@
 -- Characters written one after the other into a buffer, each read from the nets of the walk.
-use Rattle.std.proofs.Common.{◌≡◌, ℕ, ◌+◌, ◌<◌, ◌≤◌, List, [], ◌∷◌, ◌++◌, length, get_or, take, drop, set, sym, refl, ap, ◌∙◌, subst, append-nil, arith, length-take}
+use Rattle.std.proofs.Common.{◌≡◌, ℕ, ◌+◌, ◌<◌, ◌≤◌, List, ◌∷◌, ◌++◌, length, get_or, take, drop, set, sym, ap, ◌∙◌, arith}
 use lib.Seq.{append_snoc}
 use Rattle.std.proofs.lemmas.List.{drop_more, get_or_default, get_or-map, length-map, length-take-le, set_at, take_all, take_more}
 use Rattle.card.specs.Netlists.{Lawful, Netlist, nets}

@@ -1,5 +1,5 @@
 -- A character that is a bit is what every filling makes: from the soundness of the three-valued walk.
-use Rattle.std.proofs.Common.{◌≡◌, ℕ, ◌<◌, Bool, true, false, List, length, get_or, None, sym, refl, ap, ◌∙◌, subst, arith}
+use Rattle.std.proofs.Common.{◌≡◌, Bool, true, false, get_or, None, sym, refl, ◌∙◌, arith}
 use Rattle.std.proofs.lemmas.List.{get_or-map}
 use Rattle.card.specs.Netlists.{Lawful, Netlist}
 use Rattle.signal.specs.Operations.{bit_operations}

@@ -1,5 +1,5 @@
 -- The tester's call as a definition: the number that it answers and the buffer that it leaves.
-use Rattle.std.specs.Prelude.{◌≡◌, ℕ, ◌+◌, cond, List, ◌++◌, length, drop, Ok, Err, Result, nat_le}
+use Rattle.std.specs.Prelude.{ℕ, ◌+◌, cond, List, ◌++◌, length, drop, Ok, Err, Result, nat_le}
 use Rattle.reading.specs.declared.fault.CardFault.{CardFault}
 use Rattle.reading.specs.declared.fault.CardFault.TheVariants.{Memory}
 use Rattle.card.specs.Netlists.{Netlist}

@@ -1,4 +1,4 @@
-use Rattle.std.proofs.Common.{◌≡◌, eqb, sym, ap, ◌∙◌}
+use Rattle.std.proofs.Common.{eqb, sym, ap, ◌∙◌}
 use Rattle.card.specs.Alikes.{same_gates}
 use Rattle.card.specs.Views.{netlist_of}
 use Rattle.card.proofs.Alikely.{alike_decides, alike_laws}

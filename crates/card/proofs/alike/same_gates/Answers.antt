@@ -1,4 +1,4 @@
-use Rattle.std.proofs.Common.{◌≡◌, arith}
+use Rattle.std.proofs.Common.{arith}
 use Rattle.card.proofs.Alikely.{gates_differ, gates_end, gates_go_on, unlike_lengths}
 use Rattle.card.proofs.alike.same_gates.Goals as goal
 

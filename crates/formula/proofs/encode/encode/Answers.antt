@@ -1,10 +1,10 @@
 -- The calls leave one part of the formula each; the counts and lists that they take are the card's own.
-use Rattle.std.proofs.Common.{◌≡◌, ℕ, ◌+◌, cond, [], ◌∷◌, length, Some, None, sym, refl, ap, ◌∙◌, arith, rules}
+use Rattle.std.proofs.Common.{◌≡◌, ◌+◌, cond, [], ◌∷◌, length, Some, None, ap, ◌∙◌, arith}
 use Rattle.std.specs.List.{flat_map}
 use Rattle.card.specs.Netlists.{nets}
 use Rattle.card.specs.Views.{netlist_of}
 use Rattle.solving.specs.Models.{begun, longer, startable}
-use Rattle.formula.specs.Links.{clauses_of, gate_links, input_links, link, output_links, tied}
+use Rattle.formula.specs.Links.{clauses_of, gate_links, input_links, output_links}
 use Rattle.formula.specs.Posing.{more, net_variable, rising}
 use Rattle.formula.specs.Rows.{over, rows}
 use Rattle.formula.specs.Variables.{difference, stuck_line, variables}

@@ -1,5 +1,5 @@
 -- One gate more; at the end all are put.
-use Rattle.std.proofs.Common.{◌≡◌, sym, refl, ap, ◌∙◌, arith, rules}
+use Rattle.std.proofs.Common.{◌∙◌, arith, rules}
 use Rattle.formula.specs.Posing.{net_variable}
 use Rattle.formula.specs.Variables.{stuck_line}
 use Rattle.formula.proofs.Loops.{gates_all, gates_more}

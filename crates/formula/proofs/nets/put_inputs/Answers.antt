@@ -1,5 +1,5 @@
 -- One input more.
-use Rattle.std.proofs.Common.{◌≡◌, cond, [], ◌∷◌, Some, sym, refl, ap, ◌∙◌, arith, rules}
+use Rattle.std.proofs.Common.{◌≡◌, cond, [], ◌∷◌, Some, ◌∙◌, arith, rules}
 use Rattle.card.specs.declared.function.Function.TheVariants.{Ida}
 use Rattle.signal.specs.Walks.{sticks_net}
 use Rattle.formula.specs.Posing.{more}

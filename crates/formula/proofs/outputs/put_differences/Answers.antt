@@ -1,5 +1,5 @@
 -- One literal more; at the end the clause has one for each output, and the solver takes it.
-use Rattle.std.proofs.Common.{◌≡◌, ℕ, suc, ◌+◌, length, take, pos, sym, refl, ap, ◌∙◌, ap₂, arith, length-set, w16, rules}
+use Rattle.std.proofs.Common.{◌≡◌, suc, ◌+◌, take, pos, sym, ap, ◌∙◌, ap₂, arith, length-set, w16}
 use Rattle.std.proofs.lemmas.Int.{to_z_pos}
 use Rattle.solving.specs.Models.{longer}
 use Rattle.formula.specs.Posing.{rising}

@@ -1,5 +1,5 @@
 -- One output more; at the end all are put.
-use Rattle.std.proofs.Common.{◌≡◌, [], ◌∷◌, get_or, sym, refl, ap, ◌∙◌, arith, rules}
+use Rattle.std.proofs.Common.{◌≡◌, [], ◌∷◌, get_or, ap, ◌∙◌, arith, rules}
 use Rattle.card.specs.declared.function.Function.TheVariants.{Xor2}
 use Rattle.card.proofs.Below.{below_at}
 use Rattle.formula.specs.Posing.{more}

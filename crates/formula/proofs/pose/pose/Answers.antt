@@ -1,5 +1,5 @@
 -- A number that is refused is no fault, so nothing changes; else the encoder's promises are those of the fault's line.
-use Rattle.std.proofs.Common.{◌≡◌, Some, None, sym, refl, ap, ◌∙◌, subst, rules}
+use Rattle.std.proofs.Common.{◌≡◌, Some, None, sym, ap, ◌∙◌, subst, rules}
 use Rattle.signal.specs.declared.line.Stuck.{Stuck}
 use Rattle.solving.proofs.Places.{none_some, some_inj}
 use Rattle.faults.specs.Sites.{stuck_of}

@@ -1,5 +1,5 @@
 -- The solver takes the literals, since each is one of its variables and it has room.
-use Rattle.std.proofs.Common.{◌≡◌, ◌<◌, [], length, take, sym, refl, ap, ◌∙◌, arith, rules}
+use Rattle.std.proofs.Common.{◌≡◌, ◌<◌, [], length, take, ap, ◌∙◌, arith, rules}
 use Rattle.std.proofs.lemmas.List.{length-take-le}
 use Rattle.solving.specs.Literals.{places}
 use Rattle.formula.specs.Posing.{more}

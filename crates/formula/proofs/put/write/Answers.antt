@@ -1,5 +1,5 @@
 -- One code more; at the end all codes of the clause are written.
-use Rattle.std.proofs.Common.{◌≡◌, [], length, get_or, pos, sym, ap, ◌∙◌, arith, w8, SFits, rules}
+use Rattle.std.proofs.Common.{◌≡◌, [], length, get_or, pos, ap, ◌∙◌, arith, w8, SFits, rules}
 use Rattle.std.proofs.lemmas.Int.{to_z-of_z}
 use Rattle.formula.specs.Rows.{literal_of, with_code}
 use Rattle.solving.specs.Literals.{all_in_range}

@@ -1,4 +1,4 @@
-use Rattle.std.proofs.Common.{◌≡◌, ◌+◌, ◌-◌, ◌<◌, ◌≤◌, [], ◌∷◌, ◌++◌, length, get_or, take, drop, sym, refl, ap, ◌∙◌, true≢false, arith, length-drop, length-take, w16, SFits, rules}
+use Rattle.std.proofs.Common.{◌≡◌, ◌<◌, [], ◌∷◌, ◌++◌, length, get_or, take, drop, sym, refl, ap, ◌∙◌, true≢false, arith, length-drop, length-take, w16, SFits, rules}
 use mathlib.Core.Bool.{false≢true}
 use lib.Seq.{drop-append-le}
 use Rattle.std.proofs.lemmas.Int.{to_z-of_z}
@@ -7,7 +7,6 @@ use Rattle.solving.specs.Settings.{open_in}
 use Rattle.solving.specs.Orders.{stop}
 use Rattle.solving.proofs.Places.{open_inside, open_some}
 use Rattle.propagation.specs.Occurrences.{clauses_of}
-use Rattle.propagation.specs.Following.{Looked}
 use Rattle.propagation.proofs.Rows.{clauses_length, stands_at}
 use Rattle.propagation.proofs.Scanned.{scan_open, scan_falls}
 use Rattle.propagation.proofs.Trailing.{grown_none, grown_more, grown_longer}

@@ -1,4 +1,4 @@
-use Rattle.std.proofs.Common.{◌≡◌, ◌+◌, ◌-◌, ◌<◌, ◌≤◌, length, take, drop, sym, refl, ap, ◌∙◌, arith, length-take}
+use Rattle.std.proofs.Common.{take, drop, sym, refl, ap, ◌∙◌, arith, length-take}
 use Rattle.propagation.specs.Occurrences.{clauses_of}
 use Rattle.propagation.proofs.Trailing.{grown_on, grown_longer}
 use Rattle.propagation.proofs.Reached.{closes_broken, closes_on}

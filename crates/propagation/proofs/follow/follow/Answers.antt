@@ -1,7 +1,5 @@
-use Rattle.std.proofs.Common.{◌≡◌, ◌+◌, ◌-◌, ◌<◌, ◌≤◌, length, take, drop, sym, refl, ap, ◌∙◌, arith, length-drop, length-take, rules}
-use Rattle.solving.specs.Settings.{open_in}
+use Rattle.std.proofs.Common.{◌≡◌, length, take, drop, refl, ◌∙◌, arith, length-drop, length-take}
 use Rattle.solving.specs.Orders.{stop}
-use Rattle.solving.specs.Closing.{violated}
 use Rattle.propagation.specs.Occurrences.{clauses_of}
 use Rattle.propagation.proofs.Trailing.{grown_none, grown_on, grown_longer}
 use Rattle.propagation.proofs.Reached.{reach_on, closes_broken, closes_whole}

@@ -1,12 +1,11 @@
-use Rattle.std.proofs.Common.{◌≡◌, ◌+◌, ◌-◌, ◌<◌, ◌≤◌, length, get_or, take, pos, sym, refl, ap, ◌∙◌, true≢false, arith, length-take, w16, SFits, rules}
+use Rattle.std.proofs.Common.{◌≡◌, ◌+◌, ◌-◌, ◌<◌, length, get_or, take, pos, refl, ap, ◌∙◌, arith, length-take, w16, SFits, rules}
 use mathlib.Core.Bool.{false≢true}
 use Rattle.std.proofs.lemmas.List.{get_or_default}
 use Rattle.std.proofs.lemmas.Int.{to_z-of_z}
-use Rattle.solving.specs.Settings.{open_in}
 use Rattle.solving.specs.Orders.{stop}
 use Rattle.propagation.specs.Occurrences.{against, clauses_of}
 use Rattle.propagation.proofs.Trailing.{grown_none}
-use Rattle.propagation.proofs.Followed.{front_wide, visit_start, here, visited, visit_pair, visit_before, visit_broken, visit_goes, visit_end}
+use Rattle.propagation.proofs.Followed.{front_wide, visit_start, visited, visit_pair, visit_before, visit_broken, visit_goes}
 use Rattle.propagation.proofs.follow.visit.Goals as goal
 
 pub bounds-clauses-negated_key_of : goal.bounds-clauses-negated_key_of

@@ -1,4 +1,4 @@
-use Rattle.std.proofs.Common.{◌≡◌, ℕ, ◌+◌, ◌≤◌, length, get_or, drop, pos}
+use Rattle.std.proofs.Common.{◌≡◌, ◌+◌, ◌≤◌, length, get_or, drop, pos}
 use Rattle.solving.specs.Settings.{open_in}
 use Rattle.solving.specs.Orders.{Reaches}
 use Rattle.propagation.specs.Stacks.{held, room}

@@ -1,5 +1,5 @@
-use Rattle.std.proofs.Common.{◌≡◌, ℕ, ◌+◌, ◌<◌, ◌≤◌, length, get_or, sym, refl, ap, ◌∙◌, subst, not-suc-le-zero, add-one, arith}
-use Rattle.propagation.specs.Occurrences.{start_of, Headed, Linked, Spanned}
+use Rattle.std.proofs.Common.{◌≡◌, length, get_or, sym, refl, ap, ◌∙◌, subst, not-suc-le-zero, add-one, arith}
+use Rattle.propagation.specs.Occurrences.{start_of, Headed, Spanned}
 use Rattle.propagation.proofs.Rows.{clause_ends, ends_before, ends_last}
 use Rattle.propagation.proofs.Listing.{headed_none, spanned_more}
 use Rattle.propagation.proofs.list.list.Goals as goal

@@ -1,5 +1,4 @@
-use Rattle.std.proofs.Common.{◌≡◌, ℕ, length, drop}
-use Rattle.propagation.specs.Scanning.{Ends}
+use Rattle.std.proofs.Common.{◌≡◌, length}
 use Rattle.propagation.specs.Occurrences.{start_of, Headed, Linked, Paired, Spanned}
 use Rattle.propagation.proofs.list.list.Given as goal
 

@@ -1,8 +1,8 @@
-use Rattle.std.proofs.Common.{◌≡◌, ◌+◌, ◌-◌, ◌<◌, ◌≤◌, length, take, drop, sym, refl, ap, ◌∙◌, arith, w16, SFits, rules}
+use Rattle.std.proofs.Common.{length, sym, refl, arith, w16, SFits, rules}
 use Rattle.std.proofs.lemmas.Int.{to_z-of_z}
 use Rattle.solving.specs.Literals.{place}
 use Rattle.solving.proofs.Places.{open_inside, open_some}
-use Rattle.propagation.specs.Following.{Pressed, rests, breaks, forces}
+use Rattle.propagation.specs.Following.{forces}
 use Rattle.propagation.proofs.Followed.{unit_place}
 use Rattle.propagation.proofs.press.press.Goals as goal
 

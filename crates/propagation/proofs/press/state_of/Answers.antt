@@ -1,6 +1,5 @@
-use Rattle.std.proofs.Common.{◌≡◌, ◌+◌, ◌-◌, ◌<◌, ◌≤◌, length, get_or, take, drop, pos, sym, refl, ap, ◌∙◌, arith, w16, SFits, rules}
+use Rattle.std.proofs.Common.{◌+◌, ◌-◌, get_or, take, drop, pos, sym, ap, ◌∙◌, arith, w16, SFits, rules}
 use Rattle.std.proofs.lemmas.Int.{to_z-of_z}
-use Rattle.solving.specs.Settings.{value}
 use Rattle.solving.specs.declared.state.State.{State}
 use Rattle.solving.specs.States.{state_of, joined}
 use Rattle.propagation.specs.Scanning.{combined}

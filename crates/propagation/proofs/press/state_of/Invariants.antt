@@ -1,4 +1,4 @@
-use Rattle.std.proofs.Common.{◌≡◌, ℕ, ◌-◌, ◌≤◌, length, take, drop}
+use Rattle.std.proofs.Common.{◌≡◌, ◌-◌, take, drop}
 use Rattle.solving.specs.States.{state_of}
 use Rattle.propagation.specs.Scanning.{combined}
 use Rattle.propagation.proofs.press.state_of.Given as goal

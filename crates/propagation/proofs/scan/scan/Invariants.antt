@@ -1,4 +1,4 @@
-use Rattle.std.proofs.Common.{◌≡◌, ℕ, ◌-◌, ◌≤◌, length, take, drop}
+use Rattle.std.proofs.Common.{◌≡◌, ◌-◌, ◌≤◌, length, take, drop}
 use Rattle.solving.specs.States.{state_of}
 use Rattle.propagation.specs.Scanning.{combined, foremost, clauses_from, Ends}
 use Rattle.propagation.proofs.scan.scan.Given as goal

@@ -1,9 +1,9 @@
 -- The reader's loop: what is left to read gives what the whole gives.
-use Rattle.std.proofs.Common.{◌≡◌, ℕ, suc, ◌+◌, ◌<◌, List, length, drop, Ok, Err, sym, ap, ◌∙◌, subst, arith, rules}
-use Rattle.std.proofs.lemmas.List.{take_rest, drop-drop, length-drop}
+use Rattle.std.proofs.Common.{suc, length, Ok, sym, ap, ◌∙◌, arith}
+use Rattle.std.proofs.lemmas.List.{take_rest}
 use Rattle.std.proofs.lemmas.Result.{err_from_is_err_and}
-use Rattle.std.proofs.lemmas.Option.{MatchOption-at_some, MatchOption-at_none}
-use Rattle.reading.specs.Reading.{Stepped, read_from, step_of}
+use Rattle.std.proofs.lemmas.Option.{MatchOption-at_some}
+use Rattle.reading.specs.Reading.{read_from}
 use Rattle.reading.specs.Drafts.{draft_of}
 use Rattle.reading.proofs.Steps.{loop_more, loop_done, loop_bad, stepped_some, stepped_none}
 use Rattle.reading.proofs.read.fill.Goals as goal

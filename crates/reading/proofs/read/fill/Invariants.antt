@@ -1,4 +1,4 @@
-use Rattle.std.proofs.Common.{◌≡◌, ℕ, ◌+◌, ◌-◌, ◌<◌, ◌≤◌, length, drop}
+use Rattle.std.proofs.Common.{◌≡◌, ℕ, ◌-◌, ◌<◌, ◌≤◌, length, drop}
 use Rattle.reading.specs.Reading.{read_from, reading}
 use Rattle.reading.specs.Drafts.{draft_of}
 use Rattle.reading.proofs.read.fill.Given as goal

@@ -1,10 +1,9 @@
 -- The reader's promises, from what its definition reads and from the agreement of definition and rules.
-use Rattle.std.proofs.Common.{◌≡◌, Ok, Err, sym, refl, ap, ◌∙◌, subst, arith, rules}
+use Rattle.std.proofs.Common.{Ok, sym, refl, ap, ◌∙◌, arith}
 use Rattle.std.proofs.lemmas.Result.{err_from_is_err_and}
-use Rattle.reading.specs.declared.fault.CardFault.TheVariants.{Memory}
 use Rattle.reading.specs.Drafts.{draft_of}
-use Rattle.reading.specs.Refusals.{refusal_number, refusal_offset}
-use Rattle.reading.specs.Rules.{Accepted, Bytes}
+use Rattle.reading.specs.Refusals.{refusal_number}
+use Rattle.reading.specs.Rules.{Bytes}
 use Rattle.reading.proofs.Lawfully.{no_rule_zero, reading_lawful}
 use Rattle.reading.proofs.Ruled.{agree}
 use Rattle.reading.proofs.read.from_bytes.Goals as goal

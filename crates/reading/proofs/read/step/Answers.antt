@@ -1,9 +1,7 @@
 -- A step of the reader, by the lemmas on one step of a reading.
-use Rattle.std.proofs.Common.{◌≡◌, true, false, cond, ltb, length, sym, refl, ap, ◌∙◌, arith, rules}
+use Rattle.std.proofs.Common.{refl, ◌∙◌, rules}
 use Rattle.std.proofs.lemmas.Result.{err_from_is_err_and}
-use Rattle.std.proofs.lemmas.Bool.{lt-ltb, le-ltb}
 use Rattle.reading.specs.Drafts.{draft_of}
-use Rattle.reading.specs.Reading.{accepted}
 use Rattle.reading.proofs.Steps.{kept, step_undecoded, step_broken, step_accepted, accepted_trailing, accepted_end, accepted_more}
 use Rattle.reading.proofs.read.step.Goals as goal
 

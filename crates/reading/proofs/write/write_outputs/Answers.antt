@@ -1,4 +1,4 @@
-use Rattle.std.proofs.Common.{vec_items, rules}
+use Rattle.std.proofs.Common.{vec_items}
 use Rattle.reading.specs.Commands.{spelled}
 use Rattle.reading.specs.declared.command.Command.TheVariants.{AddOutput}
 use Rattle.reading.proofs.Appended.{joined_on, joined_end}

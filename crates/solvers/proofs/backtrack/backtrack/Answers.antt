@@ -1,8 +1,7 @@
-use Rattle.std.proofs.Common.{◌≡◌, ℕ, pred, ◌+◌, ◌<◌, ◌≤◌, List, [], ◌∷◌, length, take, ℤ, pos, negsuc, sym, refl, ap, ◌∙◌, subst, add-one, arith, length-take, rules}
+use Rattle.std.proofs.Common.{◌≡◌, pred, ◌+◌, ◌<◌, length, take, ℤ, pos, negsuc, sym, refl, ap, ◌∙◌, add-one, arith, length-take}
 use borrow.Author.Tests.{false-ltb}
 use Rattle.solvers.specs.declared.stack.Stack.{Stack}
 use Rattle.solvers.specs.declared.decision.Decision.{Decision}
-use Rattle.solvers.specs.Looping.{Kept}
 use Rattle.solvers.specs.Scanning.{clauses_from}
 use Rattle.solvers.proofs.Looped.{loop_begin, loop_grown, loop_decide, loop_turn, loop_empty, kept_as, loop_tired, loop_found, loop_weary, turn_ready, decide_ready}
 use Rattle.solvers.proofs.backtrack.backtrack.Goals as goal

@@ -1,4 +1,4 @@
-use Rattle.std.proofs.Common.{◌≡◌, ℕ, ◌-◌, ◌≤◌}
+use Rattle.std.proofs.Common.{◌≡◌, ◌-◌, ◌≤◌}
 use Rattle.solvers.specs.Stacks.{held, room}
 use Rattle.solvers.specs.Looping.{Kept}
 use Rattle.solvers.specs.Scanning.{clauses_from}

@@ -1,14 +1,13 @@
-use Rattle.std.proofs.Common.{◌≡◌, ◌+◌, ◌-◌, ◌<◌, ◌≤◌, length, take, pos, sym, refl, ap, ◌∙◌, arith, w16, SFits, rules}
+use Rattle.std.proofs.Common.{length, sym, ap, ◌∙◌, arith, w16, SFits, rules}
 use mathlib.Core.Bool.{false≢true}
 use Rattle.std.proofs.lemmas.Int.{to_z-of_z}
-use Rattle.solvers.specs.declared.scan.Pressing.TheVariants.{Broken, Unit as Lone, Nothing}
 use Rattle.solving.specs.Literals.{place}
-use Rattle.solving.specs.Settings.{open_in, at, made}
+use Rattle.solving.specs.Settings.{open_in}
 use Rattle.solving.specs.Closing.{closure, violated}
-use Rattle.solvers.specs.Scanning.{foremost, clauses_from}
+use Rattle.solvers.specs.Scanning.{clauses_from}
 use Rattle.solving.proofs.Places.{open_inside, open_some}
 use Rattle.solvers.proofs.Scanned.{close_lone, close_open, close_broken, close_rest, made_falls}
-use Rattle.solvers.proofs.Trailing.{grown_none, grown_more}
+use Rattle.solvers.proofs.Trailing.{grown_more}
 use Rattle.solvers.proofs.close.close.Goals as goal
 
 pub returns-in-Broken : goal.returns-in-Broken

@@ -1,4 +1,4 @@
-use Rattle.std.proofs.Common.{◌≡◌, ℕ, ◌+◌, ◌≤◌, length}
+use Rattle.std.proofs.Common.{◌≡◌, ◌+◌, ◌≤◌, length}
 use Rattle.solving.specs.Settings.{open_in}
 use Rattle.solving.specs.Closing.{closure}
 use Rattle.solvers.specs.Scanning.{clauses_from}

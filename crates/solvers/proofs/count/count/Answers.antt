@@ -1,4 +1,4 @@
-use Rattle.std.proofs.Common.{◌≡◌, ◌+◌, ◌^◌, ◌<◌, ◌≤◌, length, sym, refl, ap, ◌∙◌, arith}
+use Rattle.std.proofs.Common.{◌+◌, ◌^◌, ◌<◌, ◌≤◌, length, sym, ◌∙◌, arith}
 use Rattle.solving.specs.declared.verdict.Verdict.TheVariants.{Found, None, Undecided}
 use Rattle.solvers.specs.Numbering.{bits_of}
 use Rattle.solvers.specs.Scanning.{clauses_from}

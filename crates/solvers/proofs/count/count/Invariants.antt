@@ -1,4 +1,4 @@
-use Rattle.std.proofs.Common.{◌≡◌, ℕ, ◌-◌, ◌≤◌, length, drop}
+use Rattle.std.proofs.Common.{◌≡◌, ◌-◌, ◌≤◌, length, drop}
 use Rattle.solving.specs.Counting.{settings, try_each, counting}
 use Rattle.solvers.specs.Scanning.{clauses_from}
 use Rattle.solvers.proofs.count.count.Given as goal

@@ -1,4 +1,4 @@
-use Rattle.std.proofs.Common.{◌≡◌, length, ap, ◌∙◌, arith}
+use Rattle.std.proofs.Common.{length, ap, ◌∙◌, arith}
 use Rattle.solving.specs.Settings.{Setting}
 use Rattle.solvers.specs.Numbering.{bits_of, written}
 use Rattle.solvers.proofs.Numbered.{bits_length, written_leads}

@@ -1,4 +1,4 @@
-use Rattle.std.proofs.Common.{◌≡◌, ℕ, ◌≤◌, take, drop}
+use Rattle.std.proofs.Common.{◌≡◌, ◌≤◌, take, drop}
 use Rattle.solvers.specs.Stacks.{held, room}
 use Rattle.solvers.specs.Trails.{unmade_all}
 use Rattle.solvers.proofs.turn.unwind.Given as goal

@@ -1,4 +1,4 @@
-use Rattle.std.proofs.Common.{◌≡◌, ℕ, ◌+◌, Ok, Err, Result, sym, refl, ap, ◌∙◌, subst, arith, rules}
+use Rattle.std.proofs.Common.{◌≡◌, ℕ, ◌+◌, Err, Result, ap, ◌∙◌, arith}
 use Rattle.tester.specs.Expecting.{code_of, no_memory}
 use Rattle.tester.specs.Refusals.{tester_number}
 use Rattle.tester.specs.declared.fault.TesterFault.{TesterFault}

@@ -1,13 +1,11 @@
-use Rattle.std.proofs.Common.{◌≡◌, ℕ, true, false, length, Ok, Err, Result, sym, refl, ap, ◌∙◌, subst, arith, rules}
+use Rattle.std.proofs.Common.{◌≡◌, true, false, length, Err, sym, refl, ap, ◌∙◌}
 use Rattle.std.proofs.lemmas.Result.{err_from_is_err_and}
-use Rattle.reading.specs.declared.fault.CardFault.TheVariants.{Memory}
 use Rattle.reading.specs.Reading.{reading}
 use Rattle.card.specs.Views.{netlist_of}
 use Rattle.vectors.specs.Views.{cells_of}
 use Rattle.vectors.specs.Vectors.{holding, in_form}
-use Rattle.tester.specs.Expecting.{answer_of, left_in, no_memory}
-use Rattle.tester.specs.declared.fault.TesterFault.{TesterFault}
-use Rattle.tester.specs.declared.fault.TesterFault.TheVariants.{Card, Room, Vector}
+use Rattle.tester.specs.Expecting.{answer_of, left_in}
+use Rattle.tester.specs.declared.fault.TesterFault.TheVariants.{Card, Vector}
 use Rattle.tester.proofs.Expected.{card_refused, refused_leaves, room_not_memory, shown, shows, vector_refused}
 use Rattle.tester.proofs.expect.expect_from_bytes.Goals as goal
 

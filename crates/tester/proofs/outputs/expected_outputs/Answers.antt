@@ -1,4 +1,4 @@
-use Rattle.std.proofs.Common.{◌≡◌, length, None, sym, refl, ap, ◌∙◌, arith, rules}
+use Rattle.std.proofs.Common.{length, None, sym, refl, ap, ◌∙◌, arith}
 use Rattle.std.proofs.lemmas.Bool.{le-leb, lt-leb}
 use Rattle.card.specs.Views.{netlist_of}
 use Rattle.signal.specs.Ternaries.{ternary_operations}

@@ -1,9 +1,7 @@
-use Rattle.std.proofs.Common.{◌≡◌, ◌<◌, length, get_or, sym, ap, ◌∙◌, subst, arith, rules}
-use Rattle.card.specs.Netlists.{nets}
+use Rattle.std.proofs.Common.{◌<◌, length, get_or, ap, subst, arith, rules}
 use Rattle.card.specs.Views.{netlist_of}
 use Rattle.signal.proofs.Below.{output_below}
 use Rattle.vectors.specs.Views.{cells_of}
-use Rattle.vectors.specs.Rows.{character_of}
 use Rattle.tester.specs.Characters.{characters}
 use Rattle.tester.proofs.Showing.{character_read, length_characters, over_all, over_more}
 use Rattle.tester.proofs.outputs.show.Goals as goal

@@ -1,4 +1,4 @@
-use Rattle.std.proofs.Common.{◌≡◌, ◌≤◌, ◌++◌, length, take, drop}
+use Rattle.std.proofs.Common.{◌≡◌, ◌++◌, take, drop}
 use Rattle.card.specs.Views.{netlist_of}
 use Rattle.vectors.specs.Views.{cells_of}
 use Rattle.tester.specs.Characters.{characters}
