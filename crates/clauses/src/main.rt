@@ -1,5 +1,7 @@
 // The program `clauses`: a card file, then fault numbers on standard input, one to a line; for each the fault's formula in DIMACS text,
 // so that any other solver can be set on it. The encoder gives the formula to a solver, and what that solver holds is printed.
+#![tactic(auto)]
+
 use anyhow::anyhow;
 use card::netlist::Card;
 use faults::model::FaultModel;
@@ -7,7 +9,7 @@ use formula::pose::pose;
 use formula::variables::variable_count;
 use reading::fault::CardFault;
 use reading::read::from_bytes;
-use solvers::Backtracking;
+use swift_solvers::Backtracking;
 use std::alloc::{AllocError, Global};
 use std::fmt::Write;
 use std::io::{BufRead, BufReader};

@@ -13,7 +13,7 @@ use job::Job;
 use requests::reply::Reply;
 use requests::request::Request;
 use requests::turns::run;
-use solving::Solver;
+use ways::Answering;
 use std::alloc::{AllocError, Global};
 
 impl Desk {
@@ -49,7 +49,7 @@ impl Desk {
 
     // Asks the job for the request, with the tickets and the solver, and answers what it got.
     // Without room nothing is asked, and nothing changes.
-    pub fn ask<S: Solver>(
+    pub fn ask<S: Answering>(
         &mut self,
         heap: Global,
         solver: &mut S,

@@ -19,7 +19,8 @@ use crate::table::Table;
 use crate::ticket::{Back, Ticket};
 use card::netlist::Card;
 use history::refusal::{AddRefusal, MergeRefusal, SearchRefusal, TakeRefusal, VectorRefusal};
-use solving::{Solved, Solver};
+use solving::Solved;
+use ways::Answering;
 use std::alloc::{AllocError, Global};
 
 impl Job {
@@ -45,14 +46,14 @@ impl Job {
     }
 
     // Asks the solver about the ticket's fault, and enters what it found. The answer is the solver's own, with its steps.
-    pub fn search<S: Solver>(
+    pub fn search<S: Answering>(
         &mut self,
         ticket: &Ticket,
         solver: &mut S,
         budget: u64,
     ) -> Result<Solved, SearchRefusal>
         ensures the_solvers_answer_is_entered_or_a_refusal_changes_neither_job_nor_solver { SearchAnswers (card_held self.old) (held self.old) ticket.now.fault budget (S.Solver.model solver.old) result (held self.new) (S.Solver.model solver.new) }
-        ensures the_solver_answered_in_its_own_way { IfOk result (λ solved. (s : StuckLine) → stuck_of (card_held self.old) ticket.now.fault ≡ Some s → S.Solver.answering (holds_formula (card_held self.old) s) budget solved (S.Solver.model solver.new)) }
+        ensures the_solver_answered_in_its_own_way { IfOk result (λ solved. (s : StuckLine) → stuck_of (card_held self.old) ticket.now.fault ≡ Some s → S.Answering.answering (holds_formula (card_held self.old) s) budget solved (S.Solver.model solver.new)) }
         ensures the_card_stays { card_held self.new ≡ card_held self.old }
         ensures is_a_step_of_the_history { (own : Bool) → Step (card_held self.old) (held self.old) (searched (known_as_lem ticket.now own) budget result) (held self.new) }
         ensures the_law_of_jobs_holds { Stands (card_held self.new) (held self.new) }

@@ -10,17 +10,18 @@ use crate::table::Table;
 use crate::ticket::Ticket;
 use asking::ask::ask;
 use history::refusal::SearchRefusal;
-use solving::{Solved, Solver};
+use solving::Solved;
+use ways::Answering;
 
 impl Table {
-    pub(crate) fn search<S: Solver>(
+    pub(crate) fn search<S: Answering>(
         &mut self,
         ticket: &Ticket,
         solver: &mut S,
         budget: u64,
     ) -> Result<Solved, SearchRefusal>
         ensures answered { SearchAnswers (card_of self.old) (view_of self.old) ticket.now.fault budget (S.Solver.model solver.old) result (view_of self.new) (S.Solver.model solver.new) }
-        ensures the_solver_answered_in_its_own_way { IfOk result (λ solved. (s : StuckLine) → stuck_of (card_of self.old) ticket.now.fault ≡ Some s → S.Solver.answering (holds_formula (card_of self.old) s) budget solved (S.Solver.model solver.new)) }
+        ensures the_solver_answered_in_its_own_way { IfOk result (λ solved. (s : StuckLine) → stuck_of (card_of self.old) ticket.now.fault ≡ Some s → S.Answering.answering (holds_formula (card_of self.old) s) budget solved (S.Solver.model solver.new)) }
         ensures card_stays { card_of self.new ≡ card_of self.old }
     {
         let fault = ticket.fault();

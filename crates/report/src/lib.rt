@@ -1,4 +1,6 @@
 // The sheet as text: its lines, written on a page, and the whole of it in a buffer that the caller lends.
+#![tactic(auto)]
+
 pub mod lines;
 pub mod listing;
 pub mod sheet;

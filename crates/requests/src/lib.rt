@@ -1,5 +1,7 @@
 // A list of requests, asked of a job in turn with a wallet of tickets and any solver: `run` answers what each got,
 // and its contract states the law of jobs whole, over every history.
+#![tactic(auto)]
+
 pub mod refusal;
 pub mod reply;
 pub mod request;

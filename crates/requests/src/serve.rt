@@ -9,7 +9,7 @@ use crate::reply::Reply;
 use crate::request::Request;
 use crate::wallet::put_back;
 use job::{Back, Job, Ticket};
-use solving::Solver;
+use ways::Answering;
 
 fn serve_take(job: &mut Job, wallet: &mut Vec<Ticket>, fault: usize) -> Reply
     requires room { vec_len wallet.old < vec_capacity wallet.old }
@@ -27,7 +27,7 @@ fn serve_take(job: &mut Job, wallet: &mut Vec<Ticket>, fault: usize) -> Reply
     }
 }
 
-fn serve_search<S: Solver>(
+fn serve_search<S: Answering>(
     job: &mut Job,
     solver: &mut S,
     wallet: &Vec<Ticket>,
@@ -97,7 +97,7 @@ fn serve_merge(job: &mut Job, wallet: &Vec<Ticket>, into: usize, gone: usize) ->
 }
 
 // Asks the job for the request, with the wallet's tickets and the solver.
-pub(crate) fn serve<S: Solver>(
+pub(crate) fn serve<S: Answering>(
     job: &mut Job,
     solver: &mut S,
     wallet: &mut Vec<Ticket>,

@@ -1,5 +1,7 @@
 // The program `sheet`: card bytes on standard input, the sheet on standard output, all else on standard error.
 // All that decides anything is in the libraries; this file reads and prints.
+#![tactic(auto)]
+
 use anyhow::anyhow;
 use sheets::fault::SheetFault;
 use sheets::print::{SHEET_ROOM, sheet};

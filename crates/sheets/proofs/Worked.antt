@@ -8,7 +8,7 @@ use Rattle.faults.specs.Sites.{fault_count, stuck_of}
 use Rattle.solving.specs.Backtracking.{backtracked}
 use Rattle.solving.specs.Models.{Model}
 use Rattle.solving.specs.Trials.{after, leaves, told, verdict_of}
-use Rattle.solving.specs.Ways.{ByBacktracking}
+use Rattle.ways.specs.Ways.{ByBacktracking}
 use Rattle.solving.specs.declared.verdict.Solved.{Solved}
 use Rattle.solving.specs.declared.verdict.Verdict.{Verdict}
 use Rattle.formula.specs.Posing.{holds_formula}

@@ -17,7 +17,7 @@ use crate::work::work;
 use job::Job;
 use reading::read::from_bytes;
 use report::sheet::{refusal_into, report_into};
-use solvers::Backtracking;
+use swift_solvers::Backtracking;
 use std::alloc::{AllocError, Global};
 
 // Room for every sheet.

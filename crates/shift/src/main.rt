@@ -1,5 +1,7 @@
 // The program `shift`: a card file, then one call a line on standard input, and one answer a line.
 // All that decides anything is in the libraries; this file reads calls in words, asks the desk and prints.
+#![tactic(auto)]
+
 use anyhow::anyhow;
 use card::netlist::Card;
 use desk::Desk;
@@ -8,7 +10,7 @@ use job::Job;
 use reading::fault::CardFault;
 use reading::read::from_bytes;
 use requests::{Reply, Request};
-use solvers::{Backtracking, Counting};
+use swift_solvers::{Backtracking, Counting};
 use solving::{Solved, Verdict};
 use std::alloc::{AllocError, Global};
 use std::io::{BufRead, BufReader};

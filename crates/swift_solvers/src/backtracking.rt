@@ -2,7 +2,7 @@
 ghost use Rattle.std.specs.Prelude.{◌≡◌, ◌≤◌, length, IfOk, vec_len};
 ghost use Rattle.solving.specs.Models.{fresh};
 ghost use Rattle.solving.specs.Answers.{Answers};
-ghost use Rattle.solving.specs.Ways.{ByBacktracking};
+ghost use Rattle.ways.specs.Ways.{ByBacktracking};
 ghost use Rattle.solving.specs.Trials.{told, after};
 ghost use Rattle.solving.specs.Backtracking.{backtracked};
 ghost use Rattle.swift_solvers.specs.Stores.{model_of};
@@ -14,6 +14,7 @@ use crate::store::Store;
 use propagation::{Clauses, Index, Stack};
 use solving::{AppendFault, Solved, Solver, StartFault, ValueFault};
 use std::alloc::{AllocError, Global};
+use ways::Answering;
 
 mod clauses;
 
@@ -82,8 +83,6 @@ impl Backtracking {
 impl Solver for Backtracking {
     ghost model = { λ s. model_of s.store };
 
-    ghost answering = { ByBacktracking };
-
     fn start(&mut self, variables: u16, leading: u16) -> Result<(), StartFault> {
         self.store.start(variables, leading)
     }
@@ -94,7 +93,6 @@ impl Solver for Backtracking {
 
     fn solve(&mut self, budget: u64) -> Solved
         ensures answers { Answers (model_of self.old.store) budget result (model_of self.new.store) }
-        ensures in_its_own_way { ByBacktracking (model_of self.old.store) budget result (model_of self.new.store) }
         ensures answers_as_defined { result ≡ told (backtracked (model_of self.old.store) budget) }
         ensures leaves_as_defined { model_of self.new.store ≡ after (model_of self.old.store) (backtracked (model_of self.old.store) budget) }
     {
@@ -109,5 +107,13 @@ impl Solver for Backtracking {
 
     fn value(&self, variable: u16) -> Result<bool, ValueFault> {
         self.store.value(variable)
+    }
+}
+
+impl Answering for Backtracking {
+    ghost answering = { ByBacktracking };
+
+    fn answer(&mut self, budget: u64) -> Solved {
+        self.solve(budget)
     }
 }

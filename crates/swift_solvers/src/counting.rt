@@ -2,7 +2,7 @@
 ghost use Rattle.std.specs.Prelude.{◌≡◌, ◌≤◌, length, IfOk, vec_len};
 ghost use Rattle.solving.specs.Models.{fresh};
 ghost use Rattle.solving.specs.Answers.{Answers};
-ghost use Rattle.solving.specs.Ways.{ByCounting};
+ghost use Rattle.ways.specs.Ways.{ByCounting};
 ghost use Rattle.solving.specs.Trials.{told, after};
 ghost use Rattle.solving.specs.Counting.{counted};
 ghost use Rattle.swift_solvers.specs.Stores.{model_of};
@@ -13,6 +13,7 @@ use crate::store::Store;
 use propagation::{Clauses, Index};
 use solving::{AppendFault, Solved, Solver, StartFault, ValueFault};
 use std::alloc::{AllocError, Global};
+use ways::Answering;
 
 // The trail over what is lent, from every variable open.
 fn run(store: &mut Store, index: &mut Index, places: &mut [i16], budget: u64) -> Solved
@@ -61,8 +62,6 @@ impl Counting {
 impl Solver for Counting {
     ghost model = { λ s. model_of s.store };
 
-    ghost answering = { ByCounting };
-
     fn start(&mut self, variables: u16, leading: u16) -> Result<(), StartFault> {
         self.store.start(variables, leading)
     }
@@ -73,7 +72,6 @@ impl Solver for Counting {
 
     fn solve(&mut self, budget: u64) -> Solved
         ensures answers { Answers (model_of self.old.store) budget result (model_of self.new.store) }
-        ensures in_its_own_way { ByCounting (model_of self.old.store) budget result (model_of self.new.store) }
         ensures answers_as_defined { result ≡ told (counted (model_of self.old.store) budget) }
         ensures leaves_as_defined { model_of self.new.store ≡ after (model_of self.old.store) (counted (model_of self.old.store) budget) }
     {
@@ -82,5 +80,13 @@ impl Solver for Counting {
 
     fn value(&self, variable: u16) -> Result<bool, ValueFault> {
         self.store.value(variable)
+    }
+}
+
+impl Answering for Counting {
+    ghost answering = { ByCounting };
+
+    fn answer(&mut self, budget: u64) -> Solved {
+        self.solve(budget)
     }
 }

@@ -34,9 +34,8 @@ pub fn expect_from_bytes(
     expected_outputs(&card, &vector, out)
 }
 
-// What the tester's C program calls.
-#[unsafe(no_mangle)]
-pub extern "C" fn expect(heap: Global, bytes: &[u8], care: u32, value: u32, out: &mut [u8]) -> u32
+// What the tester's C program calls, through the crate `tester_c`.
+pub fn expect(heap: Global, bytes: &[u8], care: u32, value: u32, out: &mut [u8]) -> u32
     ensures answers_what_is_expected { (result ≢ 100) → result ≡ code_of (answer_of (expectation (reading bytes.now) care value (length out.old))) }
     ensures leaves_what_is_expected { (result ≢ 100) → out.new ≡ left_in (expectation (reading bytes.now) care value (length out.old)) out.old }
     ensures one_hundred_is_want_of_memory_for_a_lawful_card { result ≡ 100 → (n : Netlist) × Accepted bytes.now n }

@@ -1,13 +1,14 @@
 // Two runs of requests on one job, by two kinds of solver: what each run promises joins to the promise over both,
 // for a client that knows only the contract of `run`.
+#![tactic(auto)]
 ghost use Rattle.std.specs.Prelude.{◌≡◌, IfOk};
 ghost use Rattle.job.specs.Jobs.{card_held, held};
 ghost use Rattle.two_solvers.specs.Joining.{Joined};
 
 use job::{Job, Ticket};
 use requests::{Reply, Request, run};
-use solvers::{Backtracking, Counting};
-use solving::Solver;
+use swift_solvers::{Backtracking, Counting};
+use ways::Answering;
 use std::alloc::{AllocError, Global};
 
 // What the requests of each run got.
@@ -18,7 +19,7 @@ pub struct Replies {
 }
 
 // Asks the job for the first requests with one solver and for the second with another.
-pub fn two_runs<S: Solver, R: Solver>(
+pub fn two_runs<S: Answering, R: Answering>(
     heap: Global,
     job: &mut Job,
     solvers: (&mut S, &mut R),

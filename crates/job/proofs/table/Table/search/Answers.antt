@@ -18,8 +18,8 @@ use Rattle.job.proofs.table.Table.search.Goals as goal
 one_line : (c : Netlist) (g f : ℕ) → g ≡ f → (s z : Stuck) → stuck_of c g ≡ Some s → stuck_of c f ≡ Some z → s ≡ z
 one_line c g f same s z e q = some_same s z (sym e ∙ ap (stuck_of c) same ∙ q)
 
-own : (g : Over) (c d : Netlist) (s z : Stuck) (budget : ℕ) (r : Solved) (n : Model) → d ≡ c → s ≡ z → g.S.Solver.answering (holds_formula d s) budget r n → g.S.Solver.answering (holds_formula c z) budget r n
-own g c d s z budget r n card line way = subst (λ (x : Stuck). g.S.Solver.answering (holds_formula c x) budget r n) line (subst (λ (k : Netlist). g.S.Solver.answering (holds_formula k s) budget r n) card way)
+own : (g : Over) (c d : Netlist) (s z : Stuck) (budget : ℕ) (r : Solved) (n : Model) → d ≡ c → s ≡ z → g.S.Answering.answering (holds_formula d s) budget r n → g.S.Answering.answering (holds_formula c z) budget r n
+own g c d s z budget r n card line way = subst (λ (x : Stuck). g.S.Answering.answering (holds_formula c x) budget r n) line (subst (λ (k : Netlist). g.S.Answering.answering (holds_formula k s) budget r n) card way)
 
 pub returns-then-len-ge-MOST : goal.returns-then-len-ge-MOST
 returns-then-len-ge-MOST g c =

@@ -17,7 +17,6 @@ returns c =
     let e = c.run.ensures in
     record {
       answers = answers_as m (model_of c.run.new.store) c.args.budget c.run.result (counted m c.args.budget) e.answers_as_defined e.leaves_as_defined (counting_answers m c.args.budget (start_some s.variables s.leading s.sized) (start_leads s.variables s.leading s.sized));
-      in_its_own_way = (e.answers_as_defined, e.leaves_as_defined);
       answers_as_defined = e.answers_as_defined;
       leaves_as_defined = e.leaves_as_defined;
     }
