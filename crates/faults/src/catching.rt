@@ -6,7 +6,7 @@ ghost use Rattle.card.specs.Views.{netlist_of};
 ghost use Rattle.vectors.specs.Extending.{Extends};
 ghost use Rattle.vectors.specs.Vectors.{Cells, Fills};
 ghost use Rattle.vectors.specs.Views.{cells_of};
-ghost use Rattle.faults.specs.Catching.{AllFixed, catches as catchesOf, opposite as oppositeOf, opposite_somewhere, ShownByEveryFilling};
+ghost use Rattle.faults.specs.Catching.{AllFixed, catches as catches_of, opposite as opposite_of, opposite_somewhere, ShownByEveryFilling};
 ghost use Rattle.faults.specs.Showing.{Shows};
 
 use card::netlist::Card;
@@ -17,7 +17,7 @@ use vectors::vector::Vector;
 
 // Whether one of two values is 0 and the other 1.
 fn opposite(good: Ternary, faulty: Ternary) -> bool
-    ensures one_is_low_and_the_other_high { result ≡ oppositeOf good faulty }
+    ensures one_is_low_and_the_other_high { result ≡ opposite_of good faulty }
 {
     match (good, faulty) {
         (Ternary::Low, Ternary::High) | (Ternary::High, Ternary::Low) => true,
@@ -40,9 +40,9 @@ fn opposite_somewhere(outputs: &[u16], good: &[Ternary; 256], faulty: &[Ternary;
 
 // Whether the vector catches the fault of the card.
 pub fn catches(card: &Card, stuck: Stuck, vector: &Vector) -> bool
-    ensures says_whether_good_and_faulty_are_opposite_at_an_output { result ≡ catchesOf (netlist_of card.now) stuck (cells_of vector.now) }
+    ensures says_whether_good_and_faulty_are_opposite_at_an_output { result ≡ catches_of (netlist_of card.now) stuck (cells_of vector.now) }
     ensures a_catch_is_shown_by_every_filling_at_one_output { result ≡ true → ShownByEveryFilling (netlist_of card.now) stuck (cells_of vector.now) }
-    ensures what_extends_the_vector_catches_too { result ≡ true → (v : Cells) → Extends v (cells_of vector.now) → catchesOf (netlist_of card.now) stuck v ≡ true }
+    ensures what_extends_the_vector_catches_too { result ≡ true → (v : Cells) → Extends v (cells_of vector.now) → catches_of (netlist_of card.now) stuck v ≡ true }
     ensures without_free_cells_a_catch_is_a_showing { let c = netlist_of card.now in (AllFixed c.inputs (cells_of vector.now) → (bits : List Bool) → Fills c.inputs (cells_of vector.now) bits → Decides result (Shows c stuck bits)) }
 {
     let mut good = [Ternary::X; 256];

@@ -2,7 +2,7 @@
 // The type carries that the list is exactly the card's branches, in order.
 ghost use Rattle.std.specs.Prelude.{◌≡◌};
 ghost use Rattle.card.specs.Views.{netlist_of};
-ghost use Rattle.faults.specs.Readers.{branches as branchesOf};
+ghost use Rattle.faults.specs.Readers.{branches as branches_of};
 
 use crate::reader::Reader;
 use card::netlist::Card;
@@ -11,5 +11,5 @@ use card::netlist::Card;
 pub struct FaultModel {
     pub(crate) card: Card,
     pub(crate) branches: Vec<Reader>,
-    ghost lists_the_branches: { branches.items ≡ branchesOf (netlist_of card) },
+    ghost lists_the_branches: { branches.items ≡ branches_of (netlist_of card) },
 }

@@ -1,6 +1,6 @@
 -- What a solver holds when clauses are given to it, one after another, and when it has been posed the formula of a fault.
 use Rattle.std.specs.Prelude.{ℕ, zero, suc, ◌≤◌, List, [], ◌∷◌, ℤ, pos, Some, None, Option}
-use Rattle.std.specs.List.{AllByRecursion as All}
+use Rattle.std.specs.List.{AllByRecursion}
 use Rattle.card.specs.Netlists.{Netlist}
 use Rattle.signal.specs.declared.line.Stuck.{Stuck}
 use Rattle.solving.specs.Models.{Model, longer}
@@ -32,7 +32,7 @@ net_variable (Some s) n = faulty n
 
 -- each is one of v variables
 abbrev pub AreVariables : ℕ → List ℕ → Type 0
-AreVariables v vs = All (λ x. (1 ≤ x) × (x ≤ v)) vs
+AreVariables v vs = AllByRecursion (λ x. (1 ≤ x) × (x ≤ v)) vs
 
 -- the literals v, v + 1 and so on, i of them
 abbrev pub rising : ℕ → ℕ → List ℤ

@@ -2,7 +2,7 @@
 // The solver refuses nothing on the way, since the formula is within its limits.
 ghost use Rattle.std.specs.Prelude.{◌≡◌, ◌≤◌};
 ghost use Rattle.card.specs.Views.{netlist_of};
-ghost use Rattle.formula.specs.Links.{tied as tiedTo};
+ghost use Rattle.formula.specs.Links.{tied as tied_to};
 ghost use Rattle.formula.specs.Meanings.{Fits, LedByInputs, Means};
 ghost use Rattle.formula.specs.Posing.{holds_formula};
 
@@ -18,7 +18,7 @@ use solving::Solver;
 
 // The function whose gate always has this level.
 fn tied(level: bool) -> Function
-    ensures is_the_constant_function { result ≡ tiedTo level }
+    ensures is_the_constant_function { result ≡ tied_to level }
 {
     if level { Function::One } else { Function::Zero }
 }

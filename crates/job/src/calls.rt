@@ -20,8 +20,8 @@ use crate::ticket::{Back, Ticket};
 use card::netlist::Card;
 use history::refusal::{AddRefusal, MergeRefusal, SearchRefusal, TakeRefusal, VectorRefusal};
 use solving::Solved;
-use ways::Answering;
 use std::alloc::{AllocError, Global};
+use ways::Answering;
 
 impl Job {
     // A new job on a card. It asks for all memory that any later call needs.

@@ -1,6 +1,6 @@
 // Merge: one listed vector takes the fixed cells of another, which leaves the list, and every mark names its vector by the new number.
 ghost use Rattle.std.specs.Prelude.{◌≡◌, map, is_ok, if◌then◌else◌, vec_len};
-ghost use Rattle.history.specs.Changing.{merging, renamed as renamedMark, renumbered};
+ghost use Rattle.history.specs.Changing.{merging, renamed as renamed_mark, renumbered};
 ghost use Rattle.history.specs.Granting.{merges};
 ghost use Rattle.job.specs.Tables.{card_of, granted, view_of};
 
@@ -19,7 +19,7 @@ fn renumber(into: usize, gone: usize, number: usize) -> usize
 
 // The mark with the new number of its vector.
 fn rename(into: usize, gone: usize, mark: Mark) -> Mark
-    ensures names_the_vector_anew { result ≡ renamedMark into gone mark }
+    ensures names_the_vector_anew { result ≡ renamed_mark into gone mark }
 {
     match mark {
         Mark::Open => Mark::Open,
@@ -30,7 +30,7 @@ fn rename(into: usize, gone: usize, mark: Mark) -> Mark
 
 // Renames every mark.
 fn rename_all(marks: &mut Vec<Mark>, into: usize, gone: usize)
-    ensures renames_each { marks.new.items ≡ map (renamedMark into gone) marks.old.items }
+    ensures renames_each { marks.new.items ≡ map (renamed_mark into gone) marks.old.items }
     ensures keeps_their_number { vec_len marks.new ≡ vec_len marks.old }
 {
     for fault in 0..marks.len() {

@@ -1,7 +1,7 @@
 // The walk: gives each net of a card its value, from the values at the inputs, for any kind of signal,
 // with or without a line that sticks. It needs no memory and refuses nothing.
 ghost use Rattle.std.specs.Prelude.{◌≡◌, ℕ, ◌<◌, ◌≤◌, length, take, drop};
-ghost use Rattle.card.specs.Netlists.{nets as netCount};
+ghost use Rattle.card.specs.Netlists.{nets as net_count};
 ghost use Rattle.card.specs.Views.{netlist_of};
 ghost use Rattle.signal.specs.Laws.{Only};
 ghost use Rattle.signal.specs.Lists.{Carries};
@@ -34,10 +34,10 @@ fn enter_stuck_input<S: Signal + Copy>(inputs: usize, stuck: Option<Stuck>, nets
 // A stuck net has its level for all its readers and as an output; a stuck pin has it for that pin alone.
 pub fn walk<S: Signal + Copy>(card: &Card, stuck: Option<Stuck>, nets: &mut [S; 256])
     ensures array_keeps_its_length { length nets.new ≡ length nets.old }
-    ensures every_net_has_its_value { let c = netlist_of card.now in take (netCount c) nets.new ≡ net_values S.Signal.operations stuck c (take c.inputs nets.old) }
-    ensures entries_behind_the_nets_stay { let c = netlist_of card.now in drop (netCount c) nets.new ≡ drop (netCount c) nets.old }
-    ensures every_net_allows_what_allowed_inputs_make { let c = netlist_of card.now in ((l : ℕ) → l < S.Signal.lanes → Carries (λ x. S.Signal.allows x l) stuck c (take c.inputs nets.old) (take (netCount c) nets.new)) }
-    ensures definite_inputs_make_every_net_definite { let c = netlist_of card.now in ((l : ℕ) → l < S.Signal.lanes → Carries (Only (λ x. S.Signal.allows x l)) stuck c (take c.inputs nets.old) (take (netCount c) nets.new)) }
+    ensures every_net_has_its_value { let c = netlist_of card.now in take (net_count c) nets.new ≡ net_values S.Signal.operations stuck c (take c.inputs nets.old) }
+    ensures entries_behind_the_nets_stay { let c = netlist_of card.now in drop (net_count c) nets.new ≡ drop (net_count c) nets.old }
+    ensures every_net_allows_what_allowed_inputs_make { let c = netlist_of card.now in ((l : ℕ) → l < S.Signal.lanes → Carries (λ x. S.Signal.allows x l) stuck c (take c.inputs nets.old) (take (net_count c) nets.new)) }
+    ensures definite_inputs_make_every_net_definite { let c = netlist_of card.now in ((l : ℕ) → l < S.Signal.lanes → Carries (Only (λ x. S.Signal.allows x l)) stuck c (take c.inputs nets.old) (take (net_count c) nets.new)) }
     ensures at_bits_each_function_means_its_name { BitMeaning }
 {
     let inputs = card.inputs();

@@ -1,6 +1,6 @@
 // What the outputs of a good card show for a vector, as characters in a buffer that the caller lends.
 ghost use Rattle.std.specs.Prelude.{◌≡◌, ℕ, ◌≤◌, length, take, is_ok, IfOk, if◌then◌else◌, MatchResult, nat_le};
-ghost use Rattle.card.specs.Netlists.{Lawful, nets as netCount};
+ghost use Rattle.card.specs.Netlists.{Lawful, nets as net_count};
 ghost use Rattle.card.specs.Views.{netlist_of};
 ghost use Rattle.vectors.specs.Views.{cells_of};
 ghost use Rattle.tester.specs.Characters.{characters, good_nets, Truthful};
@@ -16,7 +16,7 @@ use vectors::vector::Vector;
 
 // Writes the character of each output's net, from output 0.
 fn show(card: &Card, vector: &Vector, nets: &[Ternary; 256], out: &mut [u8])
-    requires walked { take (netCount (netlist_of card.now)) nets.now ≡ good_nets (netlist_of card.now) (cells_of vector.now) }
+    requires walked { take (net_count (netlist_of card.now)) nets.now ≡ good_nets (netlist_of card.now) (cells_of vector.now) }
     requires room { length (netlist_of card.now).outputs ≤ length out.old }
     ensures writes_the_characters { out.new ≡ over (characters (netlist_of card.now) (cells_of vector.now)) out.old }
 {

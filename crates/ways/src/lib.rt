@@ -1,5 +1,6 @@
 // Solvers whose way of answering is told: beside what every solver promises, what a solver of its kind may answer, and what it holds then.
 #![tactic(auto)]
+
 ghost use Rattle.std.specs.Prelude.{ℕ};
 ghost use Rattle.solving.specs.Models.{Model};
 ghost use Rattle.solving.specs.Answers.{Answers};

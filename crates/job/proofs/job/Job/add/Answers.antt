@@ -4,7 +4,7 @@ use Rattle.job.specs.Tables.{card_of, view_of}
 use Rattle.job.proofs.job.Job.add.Goals as goal
 
 pub invariant_of-self : goal.invariant_of-self
-invariant_of-self c = (reached_by c.args.self.now.table c.add.new.self c.add.ensures.card_stays c.args.self.now.reached (added c.args.care c.args.value c.add.result) (c.add.ensures.granted_or_refused, c.add.ensures.added_or_unchanged), tt)
+invariant_of-self c = record { reached = reached_by c.args.self.now.table c.add.new.self c.add.ensures.card_stays c.args.self.now.reached (added c.args.care c.args.value c.add.result) (c.add.ensures.granted_or_refused, c.add.ensures.added_or_unchanged) }
 
 pub returns : goal.returns
 returns c = record {

@@ -3,7 +3,7 @@ use Rattle.job.specs.Tables.{card_of, view_of}
 use Rattle.job.proofs.job.Job.close.Goals as goal
 
 pub invariant_of-self : goal.invariant_of-self
-invariant_of-self c = (reached_closed c.args.self.now.table c.close.new.self c.close.ensures.card_stays c.args.self.now.reached c.args.ticket c.close.result c.close.ensures.granted_or_refused c.close.ensures.closed_or_unchanged, tt)
+invariant_of-self c = record { reached = reached_closed c.args.self.now.table c.close.new.self c.close.ensures.card_stays c.args.self.now.reached c.args.ticket c.close.result c.close.ensures.granted_or_refused c.close.ensures.closed_or_unchanged }
 
 pub returns : goal.returns
 returns c = record {

@@ -3,7 +3,7 @@ use Rattle.job.specs.Tables.{card_of, view_of}
 use Rattle.job.proofs.job.Job.merge.Goals as goal
 
 pub invariant_of-self : goal.invariant_of-self
-invariant_of-self c = (reached_merged c.args.self.now.table c.merge.new.self c.merge.ensures.card_stays c.args.self.now.reached c.args.into c.args.gone c.merge.result c.merge.ensures.granted_or_refused c.merge.ensures.merged_or_unchanged, tt)
+invariant_of-self c = record { reached = reached_merged c.args.self.now.table c.merge.new.self c.merge.ensures.card_stays c.args.self.now.reached c.args.into c.args.gone c.merge.result c.merge.ensures.granted_or_refused c.merge.ensures.merged_or_unchanged }
 
 pub returns : goal.returns
 returns c = record {

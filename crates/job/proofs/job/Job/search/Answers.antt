@@ -3,7 +3,7 @@ use Rattle.job.specs.Tables.{card_of, view_of}
 use Rattle.job.proofs.job.Job.search.Goals as goal
 
 pub invariant_of-self : goal.invariant_of-self
-invariant_of-self g c = (reached_searched c.args.self.now.table c.search.new.self c.search.ensures.card_stays c.args.self.now.reached c.args.ticket.now c.args.budget (g.S.Solver.model c.args.solver.now) (g.S.Solver.model c.search.new.solver) c.search.result c.search.ensures.answered, tt)
+invariant_of-self g c = record { reached = reached_searched c.args.self.now.table c.search.new.self c.search.ensures.card_stays c.args.self.now.reached c.args.ticket.now c.args.budget (g.S.Solver.model c.args.solver.now) (g.S.Solver.model c.search.new.solver) c.search.result c.search.ensures.answered }
 
 pub returns : goal.returns
 returns g c = record {

@@ -4,7 +4,7 @@ use Rattle.job.specs.Tables.{card_of, view_of}
 use Rattle.job.proofs.job.Job.sweep.Goals as goal
 
 pub invariant_of-self : goal.invariant_of-self
-invariant_of-self c = (reached_by c.args.self.now.table c.sweep.new.self c.sweep.ensures.card_stays c.args.self.now.reached (swept c.args.vector c.sweep.result) (c.sweep.ensures.granted_or_refused, c.sweep.ensures.swept_or_unchanged), tt)
+invariant_of-self c = record { reached = reached_by c.args.self.now.table c.sweep.new.self c.sweep.ensures.card_stays c.args.self.now.reached (swept c.args.vector c.sweep.result) (c.sweep.ensures.granted_or_refused, c.sweep.ensures.swept_or_unchanged) }
 
 pub returns : goal.returns
 returns c = record {

@@ -3,7 +3,7 @@ use Rattle.job.specs.Tables.{card_of, view_of}
 use Rattle.job.proofs.job.Job.take.Goals as goal
 
 pub invariant_of-self : goal.invariant_of-self
-invariant_of-self c = (reached_took c.args.self.now.table c.take.new.self c.take.ensures.card_stays c.args.self.now.reached c.args.fault c.take.result c.take.ensures.granted_or_refused c.take.ensures.taken_or_unchanged, tt)
+invariant_of-self c = record { reached = reached_took c.args.self.now.table c.take.new.self c.take.ensures.card_stays c.args.self.now.reached c.args.fault c.take.result c.take.ensures.granted_or_refused c.take.ensures.taken_or_unchanged }
 
 pub returns : goal.returns
 returns c = record {

@@ -30,25 +30,16 @@ invariant_of-self c =
     let x = c.args.clause.now in
     let k : is_ok c.extend_from_slice.result ≡ true = c.extend_from_slice.ensures.succeeds (omega (arith, c.len.ensures, c.len-2.ensures, c.if-clause-len.false, s.few, s.room_for_literals)) in
     let l : vec_len c.extend_from_slice.new.self ≡ vec_len s.literals + length x = c.extend_from_slice.ensures.len ∙ sym (if_true (is_ok c.extend_from_slice.result) _ _ k) in
-    let p = c.push_reserved.ensures in (
-      s.sized,
-      (
-        ap (ends_well (vec_len c.extend_from_slice.new.self) 0) (p.items ∙ ap (λ n. vec_items s.ends ++ (n ∷ [])) c.len-end.ensures) ∙ ends_more (vec_len s.literals) (vec_len c.extend_from_slice.new.self) 0 (vec_items s.ends) (omega (arith, l)) s.ended,
-        (
-          omega (arith, l, p.len, c.len.ensures, c.len-2.ensures, c.if-clause-len.false),
-          (
-            omega (arith, c.extend_from_slice.ensures.capacity, s.room_for_literals),
-            (
-              omega (arith, p.capacity, s.room_for_ends),
-              (
-                s.room_for_values,
-                (λ e. absurd (false≢true e), tt),
-              ),
-            ),
-          ),
-        ),
-      ),
-    )
+    let p = c.push_reserved.ensures in
+    record {
+      sized = s.sized;
+      ended = ap (ends_well (vec_len c.extend_from_slice.new.self) 0) (p.items ∙ ap (λ n. vec_items s.ends ++ (n ∷ [])) c.len-end.ensures) ∙ ends_more (vec_len s.literals) (vec_len c.extend_from_slice.new.self) 0 (vec_items s.ends) (omega (arith, l)) s.ended;
+      few = omega (arith, l, p.len, c.len.ensures, c.len-2.ensures, c.if-clause-len.false);
+      room_for_literals = omega (arith, c.extend_from_slice.ensures.capacity, s.room_for_literals);
+      room_for_ends = omega (arith, p.capacity, s.room_for_ends);
+      room_for_values = s.room_for_values;
+      whole = λ e. absurd (false≢true e);
+    }
 
 pub returns : goal.returns
 returns c =
