@@ -13,8 +13,8 @@ use job::Job;
 use requests::reply::Reply;
 use requests::request::Request;
 use requests::turns::run;
-use ways::Answering;
 use std::alloc::{AllocError, Global};
+use ways::Answering;
 
 impl Desk {
     // A desk with a new job on the card, and no ticket.

@@ -7,8 +7,8 @@ use crate::reply::Reply;
 use crate::request::Request;
 use crate::serve::serve;
 use job::{Job, Ticket};
-use ways::Answering;
 use std::alloc::{AllocError, Global};
+use ways::Answering;
 
 // Asks the job for each request, with the wallet's tickets and the solver, and answers what each got.
 // Room for every ticket and reply is asked for first: without it nothing is asked of the job, and nothing changes.
