@@ -9,11 +9,11 @@ use formula::pose::pose;
 use formula::variables::variable_count;
 use reading::fault::CardFault;
 use reading::read::from_bytes;
-use swift_solvers::Backtracking;
 use std::alloc::{AllocError, Global};
 use std::fmt::Write;
 use std::io::{BufRead, BufReader};
 use std::{env, fs};
+use swift_solvers::Backtracking;
 
 // A clause takes at least one of a solver's places, so there are no more clauses than these.
 const PLACES: usize = 9216;

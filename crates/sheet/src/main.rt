@@ -35,9 +35,9 @@ impl Progress for Meter<'_> {
 // Why nothing was printed.
 fn reason(fault: SheetFault) -> anyhow::Error {
     match fault {
-        SheetFault::Room => "a buffer with too little room".into(),
-        SheetFault::Memory => "no memory for the work".into(),
-        SheetFault::Card(_) => "a card that is refused".into(),
+        SheetFault::Room => anyhow!("a buffer with too little room"),
+        SheetFault::Memory => anyhow!("no memory for the work"),
+        SheetFault::Card(_) => anyhow!("a card that is refused"),
     }
 }
 

@@ -17,8 +17,8 @@ use crate::work::work;
 use job::Job;
 use reading::read::from_bytes;
 use report::sheet::{refusal_into, report_into};
-use swift_solvers::Backtracking;
 use std::alloc::{AllocError, Global};
+use swift_solvers::Backtracking;
 
 // Room for every sheet.
 pub const SHEET_ROOM: usize = 65_536;

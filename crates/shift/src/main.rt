@@ -10,11 +10,11 @@ use job::Job;
 use reading::fault::CardFault;
 use reading::read::from_bytes;
 use requests::{Reply, Request};
-use swift_solvers::{Backtracking, Counting};
 use solving::{Solved, Verdict};
 use std::alloc::{AllocError, Global};
 use std::io::{BufRead, BufReader};
 use std::{env, fs};
+use swift_solvers::{Backtracking, Counting};
 use vectors::row::character;
 use vectors::vector::Vector;
 

@@ -1,15 +1,16 @@
 // Two runs of requests on one job, by two kinds of solver: what each run promises joins to the promise over both,
 // for a client that knows only the contract of `run`.
 #![tactic(auto)]
+
 ghost use Rattle.std.specs.Prelude.{◌≡◌, IfOk};
 ghost use Rattle.job.specs.Jobs.{card_held, held};
 ghost use Rattle.two_solvers.specs.Joining.{Joined};
 
 use job::{Job, Ticket};
 use requests::{Reply, Request, run};
+use std::alloc::{AllocError, Global};
 use swift_solvers::{Backtracking, Counting};
 use ways::Answering;
-use std::alloc::{AllocError, Global};
 
 // What the requests of each run got.
 #[derive(Drop)]

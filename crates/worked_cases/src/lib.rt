@@ -1,5 +1,6 @@
 // The worked cases of the small cards, proved together about the definitions that the calls' contracts use.
 #![tactic(auto)]
+
 ghost use Rattle.worked_cases.specs.Cases.{SmallCards};
 
 // Cards A, B and c17: reading and its refusals, fault counts, the sizes of two formulas, thinning, searches by both solvers with their steps,
