@@ -2,7 +2,7 @@
 // Comment lines set what the text form lacks: `c leading K`, `c budget B` and `c solver backtracking` or `counting`.
 #![tactic(auto)]
 
-use solvers::{Backtracking, Counting};
+use swift_solvers::{Backtracking, Counting};
 use solving::{Solver, Verdict};
 use std::alloc::{AllocError, Global};
 use std::io::{BufRead, BufReader};

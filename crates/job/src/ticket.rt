@@ -1,19 +1,11 @@
 // Tickets: the right to work on one fault. A ticket is moved and never copied, only a take makes one, and only a granted close spends it;
-// a program that lets go of one is not proved, since nothing meets what dropping it requires.
+// a program that lets go of one is refused, since a ticket cannot be dropped: its type is no `Drop`.
 ghost use Rattle.std.specs.Prelude.{◌≡◌};
 
 use history::refusal::CloseRefusal;
 
 pub struct Ticket {
     fault: usize,
-}
-
-impl Drop for Ticket {
-    fn drop(self)
-        requires { ⊥ }
-    {
-        let Ticket { fault: _ } = self;
-    }
 }
 
 impl Ticket {
