@@ -4,7 +4,7 @@
 usage: tools/respell.py [--list]     at the top of the repository, once, after /opt/rattle/port/port.py and before any edit by hand
 
 It goes by text. What it renames is what a file of specs/ or proofs/ declares (a definition, a lemma, a field, a constructor that
-begins with a small letter), in .antt files and in the ghost parts of .rt files. Names that Rattle makes (goals, steps) stay.
+begins with a small letter) or imports under a name of its own, in .antt files and in the ghost parts of .rt files. Names that Rattle makes (goals, steps) stay.
 Types and modules begin with a capital and stay. With --list it prints the names and those that fall together, and writes nothing.
 """
 import os
@@ -14,6 +14,7 @@ import sys
 STOPS = " \t\n(){}[];,\"`.λ→"
 TOKEN = re.compile(r"[^\s(){}\[\];,\"`.λ→]+")
 DECLARES = re.compile(r"^(?:abbrev |unfoldable |infix\S* )?(?:pub )?(?:abbrev |unfoldable )?([^\s(){}\[\];,\"`.:]+)(?: [^:=]*)?\s:(?:\s|$)")
+IMPORTED_AS = re.compile(r" as ([a-z][a-z0-9]*[A-Z]\w*)")
 FIELD = re.compile(r"^  +(?:abbrev |unfoldable )?(?:pub )?([^\s(){}\[\];,\"`.:]+)\s:(?:\s|$)")
 
 
@@ -84,6 +85,9 @@ def main(argv):
                 new = spelled(name)
                 if new != name:
                     old.setdefault(name, []).append(p)
+        for names_of_use in re.findall(r"^(?:ghost )?use [^{;\n]*\{(.*?)\}", texts[p], re.S | re.M):
+            for name in IMPORTED_AS.findall(names_of_use):
+                old.setdefault(name, []).append(p)
         for t in TOKEN.findall(texts[p]):
             every.setdefault(t, set()).add(p)
     turn = names(old, every, texts)

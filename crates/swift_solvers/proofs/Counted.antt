@@ -1,5 +1,5 @@
 -- Counting's loop: what the closure of one setting comes to, and what is left to try after each step.
-use Rattle.std.proofs.Common.{◌≡◌, ℕ, zero, suc, ◌+◌, ◌^◌, ◌<◌, ◌≤◌, Bool, true, false, eqb, ltb, List, [], ◌∷◌, length, drop, ℤ, Some, None, sym, refl, ap, ◌∙◌, add-one, arith, drop_of_length-le, le-ltb, lt-ltb, eq-eqb, ne_eqb}
+use Rattle.std.proofs.Common.{◌≡◌, ℕ, ◌+◌, ◌^◌, ◌<◌, ◌≤◌, Bool, true, false, eqb, List, ◌∷◌, length, drop, ℤ, Some, None, sym, refl, ap, ◌∙◌, add-one, arith, drop_of_length-le, le-ltb, lt-ltb, eq-eqb, ne_eqb}
 use Rattle.solving.specs.Settings.{Setting, open_in}
 use Rattle.solving.specs.Closing.{violated, closure}
 use Rattle.solving.specs.Leading.{leads}

@@ -1,10 +1,10 @@
 -- Each turn of backtracking's loop keeps its invariant, and each way out of it gives the answer of the definition.
-use Rattle.std.proofs.Common.{◌≡◌, ℕ, zero, suc, ◌+◌, ◌-◌, ◌<◌, ◌≤◌, Bool, true, false, List, [], ◌∷◌, ◌++◌, map, length, take, drop, set, ℤ, Some, None, Option, sym, refl, ap, ◌∙◌, subst, ap₂, arith, length-append, length-drop, length-set, length-take}
+use Rattle.std.proofs.Common.{◌≡◌, ℕ, suc, ◌+◌, ◌<◌, ◌≤◌, Bool, true, false, List, [], ◌∷◌, ◌++◌, map, length, take, drop, set, ℤ, Some, None, sym, refl, ap, ◌∙◌, subst, ap₂, arith, length-append, length-drop, length-take}
 use Rattle.swift_solvers.specs.declared.decision.Decision.{Decision}
 use Rattle.solving.specs.Settings.{Setting, at, made, open_in}
 use Rattle.solving.specs.Literals.{place, wants}
 use Rattle.solving.specs.Closing.{closure, violated, first_unit}
-use Rattle.solving.specs.Trials.{Answer, found, none, undecided}
+use Rattle.solving.specs.Trials.{found, none, undecided}
 use Rattle.solving.specs.Backtracking.{backtracking, lowest, lowest_open, to_zero}
 use Rattle.swift_solvers.specs.Resuming.{Frame, turned, deep, resume}
 use Rattle.propagation.specs.Trails.{unmade_all, Grown}

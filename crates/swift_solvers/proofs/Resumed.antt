@@ -1,5 +1,5 @@
 -- The recursion against a loop: what is still to come after each turn is what was to come before it.
-use Rattle.std.proofs.Common.{◌≡◌, ℕ, zero, suc, ◌+◌, ◌<◌, ◌≤◌, Bool, true, false, not, ltb, List, [], ◌∷◌, ◌++◌, length, set, ℤ, Some, None, Option, sym, refl, ap, ◌∙◌, ap₂, true≢false, arith, le-ltb, lt-ltb}
+use Rattle.std.proofs.Common.{◌≡◌, ℕ, zero, suc, ◌<◌, ◌≤◌, Bool, true, false, not, List, [], ◌∷◌, ◌++◌, length, set, ℤ, Some, None, Option, sym, refl, ap, ◌∙◌, ap₂, arith, le-ltb, lt-ltb}
 use mathlib.Core.Path.{fun_ext}
 use Rattle.solving.specs.Settings.{Setting, at, open_in}
 use Rattle.solving.specs.Closing.{violated, closure}
@@ -7,7 +7,7 @@ use Rattle.solving.specs.Trials.{Answer, found, none, undecided, while, step, or
 use Rattle.solving.specs.Backtracking.{Rule, Choice, descend, level, chosen, both, unless_broken}
 use Rattle.solving.specs.SearchLaws.{Picks}
 use Rattle.swift_solvers.specs.Resuming.{deep, Frame, turned, back, resume, Turns}
-use Rattle.solving.proofs.Places.{some_none, none_some, open_le, open_some, open_inside}
+use Rattle.solving.proofs.Places.{open_le, open_some, open_inside}
 use Rattle.solving.proofs.Closures.{closure_grows, closure_length}
 use Rattle.solving.proofs.Sounds.{fewer}
 use Rattle.solving.proofs.Ordering.{any_order}

@@ -1,9 +1,8 @@
 -- The trail: what growing and unwinding it leaves of the frames of earlier decisions.
-use Rattle.std.proofs.Common.{◌≡◌, ℕ, zero, suc, ◌+◌, ◌-◌, ◌<◌, ◌≤◌, Bool, true, false, List, [], ◌∷◌, ◌++◌, map, length, get_or, take, drop, set, ℤ, Some, None, Option, sym, refl, ap, ◌∙◌, ap₂, append_assoc, append-nil, le_of_suc-le-suc, not-suc-le-zero, arith, length-append, length-set, take-append-drop, length-take, set-set}
-use lib.Seq.{set-get_or}
+use Rattle.std.proofs.Common.{◌≡◌, ℕ, zero, suc, ◌+◌, ◌<◌, ◌≤◌, Bool, false, List, [], ◌∷◌, ◌++◌, length, take, drop, set, ℤ, None, Option, sym, refl, ap, ◌∙◌, ap₂, le_of_suc-le-suc, not-suc-le-zero, arith, length-set, take-append-drop, length-take}
 use Rattle.swift_solvers.specs.declared.decision.Decision.{Decision}
-use Rattle.solving.specs.Settings.{Setting, at, made, open_one, open_in}
-use Rattle.solving.specs.Literals.{place, wants}
+use Rattle.solving.specs.Settings.{Setting, open_in}
+use Rattle.solving.specs.Literals.{place}
 use Rattle.swift_solvers.specs.Resuming.{Frame}
 use Rattle.propagation.specs.Trails.{unmade, unmade_all}
 use Rattle.swift_solvers.specs.Trails.{frame_at, frames_of, Rising}

@@ -1,5 +1,5 @@
 -- What the recursion would still do with an answer, given the decisions not yet turned: the bridge from it to a loop with a stack.
-use Rattle.std.specs.Prelude.{◌≡◌, ℕ, suc, ◌<◌, ◌≤◌, Bool, true, false, not, List, [], ◌∷◌, ◌++◌, length, ℤ, Some, None, slice_set}
+use Rattle.std.specs.Prelude.{◌≡◌, ℕ, suc, ◌<◌, ◌≤◌, true, false, not, List, [], ◌∷◌, ◌++◌, length, ℤ, Some, None, slice_set}
 use Rattle.solving.specs.Settings.{Setting, open_in}
 use Rattle.solving.specs.Closing.{violated, closure}
 use Rattle.solving.specs.Trials.{Answer, found, none, undecided, step, or_else}

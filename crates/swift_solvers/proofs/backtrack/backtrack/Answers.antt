@@ -1,8 +1,7 @@
-use Rattle.std.proofs.Common.{◌≡◌, ℕ, pred, ◌+◌, ◌-◌, ◌<◌, ◌≤◌, List, [], ◌∷◌, ◌++◌, length, take, drop, ℤ, pos, negsuc, sym, refl, ap, ◌∙◌, subst, add-one, arith, length-append, length-take, rules}
+use Rattle.std.proofs.Common.{◌≡◌, pred, ◌+◌, ◌-◌, ◌<◌, ◌≤◌, List, [], ◌∷◌, ◌++◌, length, take, drop, ℤ, pos, negsuc, sym, refl, ap, ◌∙◌, add-one, arith, length-append, length-take}
 use borrow.Author.Tests.{false-ltb}
 use Rattle.propagation.specs.declared.stack.Stack.{Stack}
 use Rattle.swift_solvers.specs.declared.decision.Decision.{Decision}
-use Rattle.swift_solvers.specs.Looping.{Kept}
 use Rattle.propagation.specs.Occurrences.{clauses_of}
 use Rattle.solving.specs.Settings.{open_in}
 use Rattle.solving.specs.Backtracking.{lowest}

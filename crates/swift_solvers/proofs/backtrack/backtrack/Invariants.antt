@@ -1,4 +1,4 @@
-use Rattle.std.proofs.Common.{◌≡◌, ℕ, ◌-◌, ◌≤◌, drop}
+use Rattle.std.proofs.Common.{◌≡◌, ◌-◌, ◌≤◌, drop}
 use Rattle.propagation.specs.Stacks.{held, room}
 use Rattle.swift_solvers.specs.Looping.{Kept}
 use Rattle.propagation.specs.Occurrences.{clauses_of}

@@ -1,4 +1,4 @@
-use Rattle.std.proofs.Common.{◌≡◌, ◌+◌, ◌^◌, ◌<◌, ◌≤◌, length, sym, refl, ap, ◌∙◌, arith}
+use Rattle.std.proofs.Common.{◌+◌, ◌^◌, ◌<◌, ◌≤◌, length, sym, ◌∙◌, arith}
 use Rattle.solving.specs.declared.verdict.Verdict.TheVariants.{Found, None, Undecided}
 use Rattle.swift_solvers.specs.Numbering.{bits_of}
 use Rattle.propagation.specs.Occurrences.{clauses_of}

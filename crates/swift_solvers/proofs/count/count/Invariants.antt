@@ -1,4 +1,4 @@
-use Rattle.std.proofs.Common.{◌≡◌, ℕ, ◌-◌, ◌≤◌, length, drop}
+use Rattle.std.proofs.Common.{◌≡◌, ◌-◌, ◌≤◌, length, drop}
 use Rattle.solving.specs.Counting.{settings, try_each, counting}
 use Rattle.propagation.specs.Occurrences.{clauses_of}
 use Rattle.swift_solvers.proofs.count.count.Given as goal

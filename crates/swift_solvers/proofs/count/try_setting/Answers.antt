@@ -1,4 +1,4 @@
-use Rattle.std.proofs.Common.{◌≡◌, length, sym, refl, ap, ◌∙◌, arith}
+use Rattle.std.proofs.Common.{length, sym, refl, ◌∙◌, arith}
 use Rattle.solving.proofs.Closed.{open_most}
 use Rattle.swift_solvers.specs.Numbering.{bits_of}
 use Rattle.propagation.specs.Occurrences.{clauses_of}

@@ -1,4 +1,4 @@
-use Rattle.std.proofs.Common.{◌≡◌, ℕ, ◌≤◌, cond, List, length, ℤ, Some, None, vec_items, vec_len, sym, ap, ◌∙◌, ap₂, arith}
+use Rattle.std.proofs.Common.{◌≡◌, ℕ, cond, List, length, ℤ, Some, None, vec_items, vec_len, sym, ap, ◌∙◌, ap₂, arith}
 use Rattle.std.proofs.lemmas.List.{with_items_is}
 use Rattle.solving.specs.Settings.{Setting, reading_of}
 use Rattle.solving.specs.Models.{Model, reads}
@@ -6,7 +6,7 @@ use Rattle.solving.specs.Counting.{counting, counted}
 use Rattle.propagation.specs.Scanning.{clauses_from}
 use Rattle.swift_solvers.specs.Stores.{model_of}
 use Rattle.swift_solvers.specs.Outcomes.{answered}
-use Rattle.swift_solvers.proofs.Stored.{ends_of, ends_as, start_small, start_leads, start_few}
+use Rattle.swift_solvers.proofs.Stored.{ends_of, ends_as}
 use Rattle.swift_solvers.proofs.Verdicts.{told_answered, concluded}
 use Rattle.swift_solvers.proofs.counting.run.Goals as goal
 

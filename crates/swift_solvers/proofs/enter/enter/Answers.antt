@@ -1,4 +1,4 @@
-use Rattle.std.proofs.Common.{◌≡◌, length, ap, ◌∙◌, arith}
+use Rattle.std.proofs.Common.{length, ap, ◌∙◌, arith}
 use Rattle.solving.specs.Settings.{Setting}
 use Rattle.swift_solvers.specs.Numbering.{bits_of, written}
 use Rattle.swift_solvers.proofs.Numbered.{bits_length, written_leads}

@@ -1,4 +1,4 @@
-use Rattle.std.proofs.Common.{◌≡◌, ◌<◌, ◌≢◌, length, None, sym, ◌∙◌, arith, get_or-set_other, get_or-set_same, ext_get_or, below_more}
+use Rattle.std.proofs.Common.{◌<◌, ◌≢◌, length, None, sym, ◌∙◌, arith, get_or-set_other, get_or-set_same, ext_get_or, below_more}
 use lib.ListN.{length-replicate}
 use Rattle.std.proofs.lemmas.List.{get_or-replicate}
 use Rattle.swift_solvers.proofs.enter.open_all.Goals as goal

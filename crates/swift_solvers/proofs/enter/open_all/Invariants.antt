@@ -1,4 +1,4 @@
-use Rattle.std.proofs.Common.{◌≡◌, ℕ, ◌<◌, get_or, Some, None}
+use Rattle.std.proofs.Common.{◌≡◌, ℕ, ◌<◌, get_or, None}
 use Rattle.swift_solvers.proofs.enter.open_all.Given as goal
 
 abbrev pub invariant-loop-j : goal.invariant-loop-j

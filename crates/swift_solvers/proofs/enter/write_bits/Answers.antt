@@ -1,4 +1,4 @@
-use Rattle.std.proofs.Common.{◌≡◌, ℕ, suc, ◌+◌, ◌-◌, ◌*◌, ◌/◌, ◌^◌, cond, leb, set, Some, sym, refl, ap, ◌∙◌, pow-suc, arith, le-leb}
+use Rattle.std.proofs.Common.{◌≡◌, suc, ◌+◌, ◌-◌, ◌/◌, ◌^◌, cond, leb, set, Some, sym, ap, ◌∙◌, arith, le-leb}
 use borrow.Author.Tests.{lt-leb}
 use Rattle.swift_solvers.specs.Numbering.{bits_of, written}
 use Rattle.swift_solvers.proofs.Numbered.{written_more, half_power}

@@ -1,4 +1,4 @@
-use Rattle.std.proofs.Common.{◌≡◌, ℕ, ◌-◌, ◌^◌}
+use Rattle.std.proofs.Common.{◌≡◌, ◌-◌, ◌^◌}
 use Rattle.swift_solvers.specs.Numbering.{bits_of, written}
 use Rattle.swift_solvers.proofs.enter.write_bits.Given as goal
 

@@ -1,4 +1,4 @@
-use Rattle.std.proofs.Common.{◌≡◌, None, sym, arith, rules}
+use Rattle.std.proofs.Common.{sym}
 use Rattle.solving.proofs.Costs.{lowest_at, lowest_no}
 use Rattle.swift_solvers.proofs.turn.lowest_open.Goals as goal
 

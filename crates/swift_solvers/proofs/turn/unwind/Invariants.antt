@@ -1,4 +1,4 @@
-use Rattle.std.proofs.Common.{◌≡◌, ℕ, ◌≤◌, take, drop}
+use Rattle.std.proofs.Common.{◌≡◌, ◌≤◌, take, drop}
 use Rattle.propagation.specs.Stacks.{held, room}
 use Rattle.propagation.specs.Trails.{unmade_all}
 use Rattle.swift_solvers.proofs.turn.unwind.Given as goal

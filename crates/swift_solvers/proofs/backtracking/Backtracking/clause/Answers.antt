@@ -1,5 +1,5 @@
 -- A clause begins where the one before it ends, and the first at the start of the row.
-use Rattle.std.proofs.Common.{◌≡◌, ℕ, zero, suc, ◌-◌, ◌<◌, ◌≤◌, ltb, List, [], ◌∷◌, length, get_or, take, drop, ℤ, vec_items, vec_len, sym, refl, ap, ◌∙◌, ap₂, le_of_suc-le-suc, not-suc-le-zero, arith, le-ltb, lt-ltb}
+use Rattle.std.proofs.Common.{◌≡◌, ℕ, zero, suc, ◌-◌, ◌<◌, ◌≤◌, List, [], ◌∷◌, length, get_or, take, drop, ℤ, vec_items, vec_len, sym, refl, ap, ◌∙◌, le_of_suc-le-suc, not-suc-le-zero, arith, le-ltb, lt-ltb}
 use Rattle.propagation.specs.Scanning.{clauses_from, Ends}
 use Rattle.propagation.proofs.Scanned.{ends_le}
 use Rattle.swift_solvers.proofs.Stored.{ends_as, ends_of}

@@ -1,5 +1,4 @@
-use Rattle.std.proofs.Common.{rules}
-use Rattle.std.proofs.lemmas.Result.{IfOk-from_err, err_from_is_err_and}
+use Rattle.std.proofs.lemmas.Result.{err_from_is_err_and}
 use Rattle.swift_solvers.proofs.backtracking.Backtracking.new.Goals as goal
 
 pub returns-in_err-decisions : goal.returns-in_err-decisions

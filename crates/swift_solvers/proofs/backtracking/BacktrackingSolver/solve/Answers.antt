@@ -1,9 +1,4 @@
-use Rattle.std.proofs.Common.{◌≡◌, sym, subst, ap₂}
-use Rattle.solving.specs.Models.{Model}
-use Rattle.solving.specs.Answers.{Answers}
-use Rattle.solving.specs.Trials.{told, after}
 use Rattle.solving.specs.Backtracking.{backtracked}
-use Rattle.solving.specs.declared.verdict.Solved.{Solved}
 use Rattle.solving.proofs.Kept.{backtracking_answers}
 use Rattle.swift_solvers.specs.Stores.{model_of}
 use Rattle.swift_solvers.proofs.Stored.{start_leads}

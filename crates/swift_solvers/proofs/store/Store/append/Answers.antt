@@ -1,8 +1,8 @@
-use Rattle.std.proofs.Common.{◌≡◌, ℕ, ◌+◌, ◌≤◌, Bool, true, false, cond, ◌&&◌, leb, List, [], ◌∷◌, ◌++◌, length, ℤ, is_ok, None, Ok, Err, vec_items, vec_len, sym, refl, ap, ◌∙◌, ap₂, arith, le-leb}
+use Rattle.std.proofs.Common.{◌≡◌, ℕ, ◌+◌, true, false, ◌&&◌, List, [], ◌∷◌, ◌++◌, length, ℤ, is_ok, None, Ok, Err, vec_items, vec_len, sym, ap, ◌∙◌, ap₂, arith, le-leb}
 use mathlib.Core.Bool.{false≢true}
 use borrow.Author.Tests.{lt-leb}
-use Rattle.solving.specs.Literals.{all_in_range, places}
-use Rattle.solving.specs.Models.{Model, longer, room_for, appendable}
+use Rattle.solving.specs.Literals.{all_in_range}
+use Rattle.solving.specs.Models.{longer, room_for, appendable}
 use Rattle.solving.specs.declared.fault.AppendFault.TheVariants.{Literal, Places}
 use Rattle.propagation.specs.Scanning.{clauses_from, ends_well}
 use Rattle.swift_solvers.specs.Stores.{model_of}

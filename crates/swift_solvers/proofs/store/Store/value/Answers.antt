@@ -1,4 +1,4 @@
-use Rattle.std.proofs.Common.{◌≡◌, ℕ, ◌-◌, Bool, true, false, cond, ◌&&◌, leb, get_or, Some, None, Ok, Err, vec_items, sym, refl, ap, ◌∙◌, ap₂, arith, le-leb}
+use Rattle.std.proofs.Common.{◌≡◌, ◌-◌, true, false, cond, ◌&&◌, leb, get_or, Some, None, Ok, Err, vec_items, sym, ap, ◌∙◌, ap₂, arith, le-leb}
 use lib.ListN.{get_or-map}
 use Rattle.std.proofs.lemmas.List.{get_or_default}
 use Rattle.solving.specs.Settings.{bit_of, reading_of}
