@@ -8,10 +8,10 @@ use Rattle.solving.specs.Answers.{Answers, Says}
 use Rattle.solving.specs.Models.{Model}
 use Rattle.solving.specs.declared.verdict.Solved.{Solved}
 use Rattle.solving.specs.declared.verdict.Verdict.{Verdict}
-use Rattle.solving.specs.declared.verdict.Verdict.TheVariants.{Found, None as Unsatisfiable, Undecided}
+use Rattle.solving.specs.declared.verdict.Verdict.TheVariants.{Found}
 use Rattle.formula.specs.Meanings.{Fits}
 use Rattle.formula.specs.Posing.{holds_formula}
-use Rattle.asking.specs.Findings.{Asks, Finding, Tells, finding, fixing, shown, unknown, untestable}
+use Rattle.asking.specs.Findings.{Asks, Finding, Tells, finding, fixing, shown}
 use Rattle.asking.proofs.Told.{asks_tells}
 
 -- what `ask` promises

@@ -1,7 +1,7 @@
 -- The loop that reads a setting from the last input to the first.
-use Rattle.std.proofs.Common.{◌≡◌, ℕ, zero, suc, ◌+◌, ◌-◌, ◌*◌, ◌^◌, ◌<◌, ◌≤◌, Bool, true, false, cond, List, [], length, get_or, take, drop, replicate, Some, Option, sym, refl, ap, ◌∙◌, subst, arith, pow-add}
+use Rattle.std.proofs.Common.{◌≡◌, ℕ, ◌+◌, ◌-◌, ◌*◌, ◌^◌, ◌<◌, ◌≤◌, Bool, true, false, cond, List, length, get_or, take, drop, replicate, Some, sym, ap, ◌∙◌, subst, arith, pow-add}
 use Rattle.std.proofs.lemmas.List.{drop_all, get_or-take, length-take-le}
-use Rattle.vectors.specs.Vectors.{Cells, InForm, holding}
+use Rattle.vectors.specs.Vectors.{InForm, holding}
 use Rattle.vectors.proofs.Bits.{below_past}
 use Rattle.solving.specs.Models.{Model}
 use Rattle.asking.specs.Findings.{fixing}

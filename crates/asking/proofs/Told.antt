@@ -1,27 +1,24 @@
 -- What a solver's answer says of the fault whose formula it was given is true, for every solver that keeps its promises.
-use Rattle.std.proofs.Common.{◌≡◌, ℕ, zero, suc, ◌+◌, ◌<◌, ◌≤◌, Bool, true, false, not, ◌&&◌, eqb, List, length, take, Some, None, Option, sym, refl, ap, ◌∙◌, subst, ⊎_elim, arith}
+use Rattle.std.proofs.Common.{◌≡◌, ℕ, zero, suc, ◌≤◌, Bool, true, false, not, eqb, List, length, take, Some, None, Option, sym, ◌∙◌, subst, ⊎_elim, arith}
 use Rattle.std.proofs.lemmas.List.{length-take-le}
-use Rattle.std.proofs.lemmas.Bool.{and_cases, and_left, and_right, cases_Bool, cond_both}
+use Rattle.std.proofs.lemmas.Bool.{and_cases, and_left, and_right, cond_both}
 use Rattle.card.specs.Netlists.{Netlist, Lawful}
 use Rattle.signal.specs.declared.line.Stuck.{Stuck}
-use Rattle.vectors.specs.Freeing.{freed, without}
+use Rattle.vectors.specs.Freeing.{freed}
 use Rattle.vectors.specs.Vectors.{Cells, InForm, bit_at}
 use Rattle.vectors.proofs.Freed.{bit_without}
 use Rattle.faults.specs.Catching.{ShownByEveryFilling, catches}
-use Rattle.faults.specs.Showing.{Shows, Never}
+use Rattle.faults.specs.Showing.{Shows}
 use Rattle.faults.specs.Thinning.{thinned}
 use Rattle.faults.proofs.Caught.{catch_shown, shows_caught}
 use Rattle.faults.proofs.Thinned.{thinned_catches}
 use Rattle.solving.specs.Answers.{Says}
-use Rattle.solving.specs.Leading.{enough}
 use Rattle.solving.specs.Models.{Model}
 use Rattle.solving.specs.declared.verdict.Solved.{Solved}
 use Rattle.solving.specs.declared.verdict.Verdict.{Verdict}
 use Rattle.solving.specs.declared.verdict.Verdict.TheVariants.{Found, None as Unsatisfiable, Undecided}
-use Rattle.formula.specs.Formulas.{formula_of}
 use Rattle.formula.specs.Meanings.{FormulaLaws}
 use Rattle.formula.specs.Posing.{holds_formula}
-use Rattle.formula.specs.Variables.{variables}
 use Rattle.formula.proofs.Standing.{formula_stands}
 use Rattle.asking.specs.Findings.{Asks, Finding, Tells, finding, fixing, shown, thinned_setting, unknown, untestable}
 use Rattle.asking.proofs.Weighed.{fixing_all, fixing_filled, fixing_in_form}

@@ -1,10 +1,9 @@
 -- The bits of a weighed list, and the vector that fixes every input of a setting.
-use Rattle.std.proofs.Common.{◌≡◌, ℕ, zero, suc, ◌+◌, ◌-◌, ◌*◌, ◌/◌, ◌%◌, ◌^◌, ◌<◌, ◌≤◌, Bool, true, false, cond, eqb, List, [], ◌∷◌, map, length, get_or, take, drop, replicate, sym, refl, ap, ◌∙◌, subst, ⊎_elim, arith}
-use lib.Bits.{bit_and}
-use lib.ListN.{length-replicate, length-map}
+use Rattle.std.proofs.Common.{◌≡◌, ℕ, zero, suc, ◌+◌, ◌*◌, ◌/◌, ◌%◌, ◌^◌, ◌<◌, ◌≤◌, Bool, true, false, cond, eqb, List, [], ◌∷◌, map, length, get_or, drop, replicate, sym, refl, ap, ◌∙◌, subst, ⊎_elim, arith}
+use lib.ListN.{length-replicate}
 use Rattle.std.proofs.lemmas.List.{drop_more, get_or-map, get_or_past}
 use Rattle.std.proofs.lemmas.Bool.{both_ways, cases_lt}
-use Rattle.vectors.specs.Vectors.{Cells, Fills, InForm, bit_at, holding}
+use Rattle.vectors.specs.Vectors.{Fills, InForm, bit_at, holding}
 use Rattle.vectors.proofs.Bits.{below_from_bits, bit_lowest, bit_of_zero, bit_past, bit_suc}
 use Rattle.faults.specs.Catching.{AllFixed}
 use Rattle.asking.specs.Findings.{fixing}

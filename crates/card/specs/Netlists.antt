@@ -1,6 +1,6 @@
 -- A netlist as lists of gates and outputs, and the rules that every card keeps.
 -- Nets are numbered from 0: the inputs first, then one net for each gate, in order.
-use Rattle.std.specs.Prelude.{◌≡◌, ℕ, ◌+◌, ◌<◌, ◌≤◌, Bool, true, ◌&&◌, List, [], ◌∷◌, length, get_or, ◌≢◌, nat_lt, slice_index, slice_index_or}
+use Rattle.std.specs.Prelude.{◌≡◌, ℕ, ◌+◌, ◌<◌, ◌≤◌, Bool, true, ◌&&◌, List, [], ◌∷◌, length, ◌≢◌, nat_lt, slice_index, slice_index_or}
 use Rattle.card.specs.declared.gate.Operands.{Operands}
 use Rattle.card.specs.declared.gate.Operands.TheVariants.{None, One, Two}
 use Rattle.card.specs.declared.gate.Gate.{Gate}
@@ -31,7 +31,7 @@ all_below n (x ∷ xs) = nat_lt x n && all_below n xs
 
 -- every gate has as many pins as its function asks
 abbrev pub PinsMatch : List Gate → Type 0
-PinsMatch gs = (i : ℕ) (d : Gate) → i < length gs → length (pins_of (slice_index_or gs i d)) ≡ pin_count (get_or gs i d).function
+PinsMatch gs = (i : ℕ) (d : Gate) → i < length gs → length (pins_of (slice_index_or gs i d)) ≡ pin_count (slice_index_or gs i d).function
 
 -- every pin of gate i reads a net that is declared before it: an input, or one of the i gates before
 abbrev pub Ordered : ℕ → List Gate → Type 0

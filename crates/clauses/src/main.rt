@@ -6,7 +6,7 @@ use anyhow::anyhow;
 use card::netlist::Card;
 use faults::model::FaultModel;
 use formula::pose::pose;
-use formula::variables::variable_count;
+use formula::variable_count;
 use reading::fault::CardFault;
 use reading::read::from_bytes;
 use std::alloc::{AllocError, Global};

@@ -1,5 +1,5 @@
 -- A request served by the job leaves each taken fault its one ticket.
-use Rattle.std.proofs.Common.{◌≡◌, ℕ, zero, suc, ◌+◌, ◌<◌, ◌≤◌, Bool, true, false, cond, eqb, ◌⊎◌, List, [], ◌∷◌, ◌++◌, map, length, get_or, set, is_ok, IfOk, IfErr, Ok, Err, count_by, Result, sym, refl, ap, ◌∙◌, subst, ⊎_elim, arith, get_or-set_other, get_or-set_same}
+use Rattle.std.proofs.Common.{◌≡◌, ℕ, zero, suc, ◌+◌, ◌<◌, ◌≤◌, Bool, true, false, cond, eqb, List, [], ◌∷◌, ◌++◌, map, length, get_or, set, is_ok, IfOk, IfErr, Ok, Err, count_by, Result, sym, refl, ap, ◌∙◌, subst, ⊎_elim, arith, get_or-set_other, get_or-set_same}
 use mathlib.Core.HLevel.{hedberg, Π_prop}
 use mathlib.Core.Logic.{∥∥₁_elim}
 use native.Mathlib.Decide.{ℕ_discrete}
@@ -12,8 +12,8 @@ use Rattle.card.specs.Netlists.{Netlist}
 use Rattle.faults.specs.Sites.{fault_count}
 use Rattle.solving.specs.declared.verdict.Solved.{Solved}
 use Rattle.asking.specs.Findings.{Finding, shown, untestable, unknown}
-use Rattle.history.specs.Changing.{closing, entering, taking}
-use Rattle.history.specs.Granting.{closes, takes}
+use Rattle.history.specs.Changing.{closing, entering}
+use Rattle.history.specs.Granting.{closes}
 use Rattle.history.specs.Histories.{History, LeadsTo}
 use Rattle.history.specs.Promises.{Reached}
 use Rattle.history.specs.Steps.{KnownTicket, Step, closed, searched, took}
@@ -28,7 +28,7 @@ use Rattle.job.specs.Jobs.{card_held, held}
 use Rattle.job.specs.declared.job.Job.{Job}
 use Rattle.job.specs.declared.ticket.Ticket.{Ticket}
 use Rattle.requests.specs.Running.{Runs}
-use Rattle.requests.specs.Serving.{Idle, Known, Meets, Served, Serves, at, mine}
+use Rattle.requests.specs.Serving.{Idle, Known, Meets, Serves, at, mine}
 use Rattle.requests.specs.declared.reply.Reply.{Reply}
 use Rattle.requests.specs.declared.request.Request.{Request}
 use Rattle.requests.specs.declared.request.Request.TheVariants.{Take, Search, Close, Sweep, Add, Merge}

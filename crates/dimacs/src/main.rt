@@ -2,10 +2,10 @@
 // Comment lines set what the text form lacks: `c leading K`, `c budget B` and `c solver backtracking` or `counting`.
 #![tactic(auto)]
 
-use swift_solvers::{Backtracking, Counting};
 use solving::{Solver, Verdict};
 use std::alloc::{AllocError, Global};
 use std::io::{BufRead, BufReader};
+use swift_solvers::{Backtracking, Counting};
 
 // What comment lines have set so far.
 #[derive(Clone, Copy)]

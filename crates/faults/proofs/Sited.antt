@@ -197,14 +197,14 @@ module _ (c : Netlist) where
         gate = t.0;
         pin = t.1;
         net = s.0.net;
-        reads = record { gate = t.2.0; is_gate = t.2.1; is_pin_lem = t.2.2 };
+        reads = record { gate = t.2.0; is_gate = t.2.1; is_pin = t.2.2 };
         is = sym s.2 ∙ t.3;
       }
 
   pub pin_site : (i p net : ℕ) → PinReads c i p net → 2 ≤ read_count c net → IsSite c (Pin (c.inputs + i) p)
   pin_site i p net r h =
       let reader : Reader = record { line = Pin (c.inputs + i) p; net = net } in
-      let has = has_kept (λ s. leb 2 (read_count c s.net)) (readers c) reader (gates_have c.inputs c.gates i p net (r.gate, r.is_gate, r.is_pin_lem)) (le-leb 2 (read_count c net) h) in
+      let has = has_kept (λ s. leb 2 (read_count c s.net)) (readers c) reader (gates_have c.inputs c.gates i p net (r.gate, r.is_gate, r.is_pin)) (le-leb 2 (read_count c net) h) in
       let at = has_nth (branches c) reader has in
       (nets c + at.0, line_past_nets (nets c + at.0) (omega arith) ∙ ap (slice_get (branch_lines c)) (omega arith) ∙ map_nth (λ s. s.line) (branches c) at.0 reader at.1)
 
@@ -220,7 +220,7 @@ module _ (c : Netlist) where
       let pins : t.1 ≡ p = cc in
       let gi : t.0 ≡ i = omega arith in
       let g : t.2.0 ≡ r.gate = let x = t.2.1 in let y = r.is_gate in let z : slice_get c.gates t.0 ≡ slice_get c.gates i = ap (slice_get c.gates) gi in cc in
-      let nn : s.0.net ≡ net = let x = t.2.2 in let y = r.is_pin_lem in let z : slice_get (pins_of t.2.0) t.1 ≡ slice_get (pins_of r.gate) p = ap₂ (λ (w : Gate) (m : ℕ). slice_get (pins_of w) m) g pins in cc in
+      let nn : s.0.net ≡ net = let x = t.2.2 in let y = r.is_pin in let z : slice_get (pins_of t.2.0) t.1 ≡ slice_get (pins_of r.gate) p = ap₂ (λ (w : Gate) (m : ℕ). slice_get (pins_of w) m) g pins in cc in
       subst (λ (m : ℕ). 2 ≤ read_count c m) nn u)
       (cases_lt j n)
 

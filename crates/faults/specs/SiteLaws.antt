@@ -14,7 +14,7 @@ use Rattle.faults.specs.Sites.{fault_count, line_of, site_count, stuck_of}
 pub record PinReads (c : Netlist) (i p net : ℕ) : Type 0 where
   pub gate : Gate
   pub is_gate : slice_get c.gates i ≡ Some gate
-  pub is_pin_lem : slice_get (pins_of gate) p ≡ Some net
+  pub is_pin : slice_get (pins_of gate) p ≡ Some net
 
 -- some site has this line
 abbrev pub IsSite : Netlist → Line → Type 0

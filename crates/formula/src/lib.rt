@@ -10,4 +10,6 @@ mod outputs;
 pub mod pose;
 mod put;
 mod table;
-pub mod variables;
+mod variables;
+
+pub use variables::variable_count;

@@ -1,18 +1,15 @@
 -- What is known where a call was granted.
-use Rattle.std.proofs.Common.{◌≡◌, ℕ, ◌<◌, ◌≤◌, Bool, true, false, cond, ◌&&◌, eqb, ltb, length, Ok, Err, Result, sym, refl, ap, ◌∙◌, subst, arith}
+use Rattle.std.proofs.Common.{◌≡◌, ℕ, ◌<◌, Bool, true, false, cond, ◌&&◌, eqb, ltb, length, Ok, Err, Result, refl, arith}
 use Rattle.std.proofs.lemmas.Bool.{and_parts, eqb-false, false≢true, ltb-true}
 use Rattle.card.specs.Netlists.{Netlist}
 use Rattle.vectors.specs.Merging.{mergeable}
 use Rattle.vectors.specs.Vectors.{InForm, holding, in_form}
 use Rattle.vectors.proofs.Forms.{decides_in_form}
 use Rattle.faults.specs.Sites.{fault_count}
-use Rattle.history.specs.Granting.{adds, closes, merges, searches, sweep_count, sweeps, takes}
+use Rattle.history.specs.Granting.{adds, closes, merges, searches, sweeps, takes}
 use Rattle.history.specs.Views.{View, is_open, is_taken, mark, most, vector_at}
 use Rattle.history.specs.declared.mark.Mark.{Mark}
 use Rattle.history.specs.declared.mark.Mark.TheVariants.{Open, Detected, Untestable}
-use Rattle.history.specs.declared.refusal.TakeRefusal.{TakeRefusal}
-use Rattle.history.specs.declared.refusal.SearchRefusal.{SearchRefusal}
-use Rattle.history.specs.declared.refusal.CloseRefusal.{CloseRefusal}
 
 refused_granted : {T E : Type 0} (e : E) (t : T) → Err e ≡ Ok t → ⊥
 refused_granted e t q = let z : ◌≡◌ {A = ℕ} 0 1 = cc in omega arith
@@ -62,14 +59,14 @@ pub sweep_able : (c : Netlist) (v : View) (i n : ℕ) → sweeps c v i ≡ Ok n 
 sweep_able c v i n q = ltb-true i (length v.vectors) (passed (ltb i (length v.vectors)) _ _ n q).0
 
 pub record Addable (c : Netlist) (v : View) (care value : ℕ) : Type 0 where
-  pub in_form_lem : InForm c.inputs (holding care value)
+  pub is_in_form : InForm c.inputs (holding care value)
   pub room : length v.vectors < most
 
 pub add_able : (c : Netlist) (v : View) (care value n : ℕ) → adds c v care value ≡ Ok n → Addable c v care value
 add_able c v care value n q =
     let (form, r) = passed (in_form c.inputs care value) _ _ n q in
     let (room, _) = passed (ltb (length v.vectors) most) _ _ n r in
-    record { in_form_lem = (decides_in_form c.inputs care value).0 form; room = ltb-true (length v.vectors) most room }
+    record { is_in_form = (decides_in_form c.inputs care value).0 form; room = ltb-true (length v.vectors) most room }
 
 pub record Mergeable (v : View) (i j : ℕ) : Type 0 where
   pub first_listed : i < length v.vectors

@@ -1,5 +1,5 @@
 -- A merge leaves every verdict right: what either vector shows, the merged one shows.
-use Rattle.std.proofs.Common.{◌≡◌, ℕ, ◌+◌, ◌-◌, ◌<◌, ◌≤◌, Bool, true, false, cond, ◌||◌, eqb, ltb, ◌⊎◌, List, [], ◌∷◌, map, length, get_or, set, Ok, sym, refl, ap, ◌∙◌, subst, inl, inr, ⊎_elim, arith, length-set, get_or-set_other, get_or-set_same}
+use Rattle.std.proofs.Common.{◌≡◌, ℕ, ◌+◌, ◌-◌, ◌<◌, ◌≤◌, Bool, true, cond, List, ◌∷◌, map, length, get_or, set, Ok, sym, refl, ap, ◌∙◌, subst, ⊎_elim, arith, length-set, get_or-set_other, get_or-set_same}
 use lib.Bits.{bit_and, bit_xor}
 use lib.ListN.{length-map}
 use Rattle.std.specs.List.{remove}
@@ -12,10 +12,10 @@ use Rattle.vectors.specs.Vectors.{Cells, Fills, InForm, bit_at}
 use Rattle.vectors.proofs.Bits.{bit_or_lem}
 use Rattle.vectors.proofs.Forms.{free_from_bits}
 use Rattle.vectors.proofs.Merged.{union_filled}
-use Rattle.history.specs.Changing.{lowered, merging, renamed, renumbered}
+use Rattle.history.specs.Changing.{lowered, renamed, renumbered}
 use Rattle.history.specs.Histories.{AmpleSearch, AmplySearched, History}
 use Rattle.history.specs.Promises.{ShownByFillings}
-use Rattle.history.specs.Steps.{Event, merged}
+use Rattle.history.specs.Steps.{merged}
 use Rattle.history.specs.Views.{View, blank, mark, vector_at}
 use Rattle.history.specs.declared.mark.Mark.{Mark}
 use Rattle.history.specs.declared.mark.Mark.TheVariants.{Open, Detected, Untestable}

@@ -1,17 +1,16 @@
 -- The law of jobs: every history keeps the promise, and no verdict is lost.
-use Rattle.std.proofs.Common.{◌≡◌, ℕ, ◌+◌, ◌*◌, ◌<◌, ◌≤◌, Bool, true, false, cond, not, ◌&&◌, ◌⊎◌, List, [], ◌∷◌, ◌++◌, map, length, get_or, set, Some, Ok, Err, count_by, Result, sym, refl, ap, ◌∙◌, subst, inl, inr, ⊎_elim, arith, get_or-set_other}
+use Rattle.std.proofs.Common.{◌≡◌, ℕ, ◌+◌, ◌<◌, Bool, true, false, cond, not, ◌&&◌, List, [], ◌∷◌, length, get_or, set, Ok, Err, count_by, Result, sym, refl, ap, ◌∙◌, subst, ⊎_elim, arith, get_or-set_other}
 use Rattle.std.proofs.lemmas.Bool.{cases_eq, false≢true}
 use Rattle.card.specs.Netlists.{Lawful, Netlist}
 use Rattle.vectors.specs.Vectors.{Cells, holding, bits_from}
 use Rattle.vectors.proofs.Fillings.{value_fills}
-use Rattle.faults.specs.Sites.{fault_count}
 use Rattle.solving.specs.declared.verdict.Solved.{Solved}
 use Rattle.asking.specs.Findings.{Finding, shown, unknown, untestable}
-use Rattle.history.specs.Changing.{entering, merging, renamed, sweeping, swept_mark}
-use Rattle.history.specs.Granting.{adds, catches_fault, closes, merges, sweep_marks, sweeps, takes}
+use Rattle.history.specs.Changing.{entering, renamed, sweeping}
+use Rattle.history.specs.Granting.{catches_fault}
 use Rattle.history.specs.Histories.{AmpleSearch, History, LeadsTo, Run}
-use Rattle.history.specs.Promises.{Keeps, Law, LawOfJobs, NoSettingShows, Promise, Settled, ShownByFillings}
-use Rattle.history.specs.Steps.{Event, KnownTicket, Searched, Step, added, closed, merged, searched, swept, took}
+use Rattle.history.specs.Promises.{Keeps, LawOfJobs, NoSettingShows, Promise, Settled, ShownByFillings}
+use Rattle.history.specs.Steps.{Event, KnownTicket, Step, added, closed, merged, searched, swept, took}
 use Rattle.history.specs.Views.{View, is_detected, is_open, is_taken, is_untestable, mark, new_view, vector_at}
 use Rattle.history.specs.declared.mark.Mark.{Mark}
 use Rattle.history.specs.declared.mark.Mark.TheVariants.{Open, Detected, Untestable}
@@ -21,7 +20,7 @@ use Rattle.history.specs.declared.refusal.CloseRefusal.{CloseRefusal}
 use Rattle.history.specs.declared.refusal.VectorRefusal.{VectorRefusal}
 use Rattle.history.specs.declared.refusal.AddRefusal.{AddRefusal}
 use Rattle.history.specs.declared.refusal.MergeRefusal.{MergeRefusal}
-use Rattle.history.proofs.Granted.{Mergeable, Searchable, add_able, close_able, merge_able, search_able, sweep_able, taken_able}
+use Rattle.history.proofs.Granted.{add_able, close_able, merge_able, search_able, sweep_able, taken_able}
 use Rattle.history.proofs.Merged.{mark_renamed, verdicts_merged}
 use Rattle.history.proofs.Swept.{mark_swept, verdicts_swept}
 use Rattle.history.proofs.Tickets.{Silent, Tickets, count_cons, taken_within, tickets_closed, tickets_none, tickets_still, tickets_took}
@@ -88,7 +87,7 @@ module _ (c : Netlist) (lawful : Lawful c) (h : History) (v : View) (s : Sound c
   added_sound care value (Ok n) w (e, is) =
       let able = add_able c v care value n (sym e) in
       subst (Sound c (added care value (Ok n) ∷ h)) (sym is) (record {
-        verdicts = verdicts_added c h v.marks v.vectors (added care value (Ok n)) (holding care value) (λ g a. a) able.in_form_lem able.room s.verdicts;
+        verdicts = verdicts_added c h v.marks v.vectors (added care value (Ok n)) (holding care value) (λ g a. a) able.is_in_form able.room s.verdicts;
         tickets = tickets_still c h v.taken (added care value (Ok n)) (refl, refl, λ g. refl, λ g. refl) s.tickets;
       })
   added_sound care value (Err why) w (e, is) = refused_sound (added care value (Err why)) w (refl, refl, λ g. refl, λ g. refl) (λ g a. a) is

@@ -1,9 +1,9 @@
 -- One call more leads on from where some history led, and where some history led the promise holds.
-use Rattle.std.proofs.Common.{◌≡◌, [], ◌∷◌, ◌++◌, sym, refl, ap, ◌∙◌, subst}
+use Rattle.std.proofs.Common.{◌≡◌, [], ◌∷◌, ◌++◌, sym, subst}
 use mathlib.Core.Logic.{∥∥₁_map}
 use Rattle.card.specs.Netlists.{Lawful, Netlist}
 use Rattle.history.specs.Histories.{History, LeadsTo, Run}
-use Rattle.history.specs.Promises.{Promise, Reached, Stands}
+use Rattle.history.specs.Promises.{Reached, Stands}
 use Rattle.history.specs.Steps.{Event, Step}
 use Rattle.history.specs.Views.{View, new_view}
 use Rattle.history.proofs.Promised.{law}

@@ -1,6 +1,5 @@
 -- A sweep marks only what its vector catches.
-use Rattle.std.proofs.Common.{◌≡◌, ℕ, ◌+◌, ◌<◌, ◌≤◌, Bool, true, false, cond, not, ◌&&◌, ◌⊎◌, List, [], ◌∷◌, map, length, get_or, Some, None, Ok, Option, sym, refl, ap, ◌∙◌, subst, inl, inr, ⊎_elim, arith}
-use Rattle.std.specs.List.{range_with_len}
+use Rattle.std.proofs.Common.{◌≡◌, ℕ, ◌<◌, ◌≤◌, Bool, true, false, cond, not, ◌&&◌, ◌⊎◌, ◌∷◌, length, Some, None, Ok, Option, sym, refl, ◌∙◌, subst, inl, inr, ⊎_elim, arith}
 use Rattle.std.proofs.lemmas.List.FromFn.{get_or-map-range_with_len, length-map-range_with_len}
 use Rattle.std.proofs.lemmas.List.{get_or_past}
 use Rattle.std.proofs.lemmas.Bool.{and_parts, cases_Bool, cases_lt, false≢true}
@@ -13,7 +12,7 @@ use Rattle.history.specs.Changing.{sweeping, swept_mark}
 use Rattle.history.specs.Granting.{catches_fault, caught_if, sweep_marks}
 use Rattle.history.specs.Histories.{AmpleSearch, AmplySearched, History}
 use Rattle.history.specs.Promises.{ShownByFillings}
-use Rattle.history.specs.Steps.{Event, swept}
+use Rattle.history.specs.Steps.{swept}
 use Rattle.history.specs.Views.{View, is_open, is_taken, mark, vector_at}
 use Rattle.history.specs.declared.mark.Mark.{Mark}
 use Rattle.history.specs.declared.mark.Mark.TheVariants.{Open, Detected, Untestable}

@@ -6,7 +6,7 @@ use Rattle.std.proofs.lemmas.List.Sums.{sum_by-cons, sum_by-set}
 use Rattle.std.proofs.lemmas.Bool.{cases_eq, cases_lt, eq-eqb, false≢true, ne_eqb}
 use Rattle.card.specs.Netlists.{Netlist}
 use Rattle.faults.specs.Sites.{fault_count}
-use Rattle.history.specs.Histories.{BringsOwn, History, OnlyOwn, gives, grants_close, grants_take, spends}
+use Rattle.history.specs.Histories.{History, OnlyOwn, gives, grants_close, grants_take, spends}
 use Rattle.history.specs.Steps.{Event, KnownTicket, closed, took}
 
 abbrev bit : Bool → ℕ

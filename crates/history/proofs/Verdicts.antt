@@ -1,5 +1,5 @@
 -- Every verdict is right along every history: takes, closes, adds and searches.
-use Rattle.std.proofs.Common.{◌≡◌, ℕ, ◌+◌, ◌<◌, ◌≤◌, Bool, true, false, ◌⊎◌, List, [], ◌∷◌, ◌++◌, length, get_or, set, replicate, Some, Ok, sym, refl, ap, ◌∙◌, subst, ⊎_elim, arith, length-append, length-set, get_or-set_other, get_or-set_same}
+use Rattle.std.proofs.Common.{◌≡◌, ℕ, ◌+◌, ◌<◌, ◌≤◌, List, [], ◌∷◌, ◌++◌, length, get_or, set, replicate, Some, Ok, sym, refl, ap, ◌∙◌, subst, ⊎_elim, arith, length-append, length-set, get_or-set_other, get_or-set_same}
 use lib.ListN.{length-replicate}
 use Rattle.std.proofs.lemmas.List.{get_or_append_left, get_or_past, get_or_push}
 use Rattle.std.proofs.lemmas.Bool.{cases_eq, cases_lt}
@@ -16,11 +16,11 @@ use Rattle.history.specs.Changing.{entering}
 use Rattle.history.specs.Histories.{AmpleSearch, AmplySearched, History}
 use Rattle.history.specs.Promises.{NoSettingShows, ShownByFillings}
 use Rattle.history.specs.Steps.{Event, KnownTicket, Searched, searched}
-use Rattle.history.specs.Views.{View, blank, is_taken, mark, most}
+use Rattle.history.specs.Views.{View, blank, most}
 use Rattle.history.specs.declared.mark.Mark.{Mark}
 use Rattle.history.specs.declared.mark.Mark.TheVariants.{Open, Detected, Untestable}
 use Rattle.history.proofs.Granted.{Searchable}
-use Rattle.history.proofs.Tickets.{get_d_new, taken_within}
+use Rattle.history.proofs.Tickets.{get_d_new}
 
 -- ---- marks are told apart
 

@@ -1,5 +1,5 @@
 -- What each granted call makes of what a job holds.
-use Rattle.std.specs.Prelude.{ℕ, ◌-◌, Bool, true, false, cond, List, [], ◌∷◌, ◌++◌, map, length, ◌==◌, nat_lt, slice_set}
+use Rattle.std.specs.Prelude.{ℕ, ◌-◌, true, false, cond, [], ◌∷◌, ◌++◌, map, length, ◌==◌, nat_lt, slice_set}
 use Rattle.std.specs.List.{remove, range_with_len}
 use Rattle.card.specs.Netlists.{Netlist}
 use Rattle.vectors.specs.Merging.{union}

@@ -1,6 +1,6 @@
 -- When each call is granted, and with which refusal it is refused, in the order of the tests.
 -- A search is answered by a solver, so only its refusals stand here.
-use Rattle.std.specs.Prelude.{ℕ, Bool, true, false, cond, not, ◌&&◌, List, map, length, Some, None, Ok, Err, count_by, Option, Result, ◌==◌, nat_lt}
+use Rattle.std.specs.Prelude.{ℕ, Bool, false, cond, not, ◌&&◌, map, length, Some, None, Ok, Err, count_by, Option, Result, ◌==◌, nat_lt}
 use Rattle.std.specs.List.{range_with_len}
 use Rattle.card.specs.Netlists.{Netlist}
 use Rattle.signal.specs.declared.line.Stuck.{Stuck}

@@ -2,7 +2,7 @@
 use Rattle.std.specs.Prelude.{◌≡◌, ℕ, ◌≤◌, Bool, true, false, ◌&&◌, ◌⊎◌, List, [], ◌∷◌, is_ok, ◌==◌}
 use Rattle.card.specs.Netlists.{Netlist}
 use Rattle.solving.specs.Leading.{enough}
-use Rattle.history.specs.Steps.{Event, KnownTicket, Step, added, closed, merged, searched, swept, took}
+use Rattle.history.specs.Steps.{Event, Step, added, closed, merged, searched, swept, took}
 use Rattle.history.specs.Views.{View, new_view}
 
 abbrev pub History : Type 0

@@ -1,5 +1,5 @@
 -- The law of jobs: what holds after every history of calls, granted or refused, whatever solvers the searches bring.
-use Rattle.std.specs.Prelude.{◌≡◌, ℕ, ◌+◌, ◌*◌, ◌<◌, ◌≤◌, Bool, true, List, ◌++◌, length, Some, count_by}
+use Rattle.std.specs.Prelude.{◌≡◌, ℕ, ◌+◌, ◌*◌, ◌<◌, ◌≤◌, Bool, true, List, length, Some, count_by}
 use Rattle.card.specs.Netlists.{Lawful, Netlist}
 use Rattle.signal.specs.declared.line.Stuck.{Stuck}
 use Rattle.vectors.specs.Vectors.{Cells, InForm}
@@ -10,7 +10,7 @@ use Rattle.faults.specs.Sites.{stuck_of}
 use Rattle.history.specs.Histories.{AmplySearched, History, LeadsTo, OnlyOwn, Run, gives, grants_close, grants_take, spends}
 use Rattle.history.specs.Views.{View, is_detected, is_open, is_taken, is_untestable, mark, most, vector_at}
 use Rattle.history.specs.declared.mark.Mark.{Mark}
-use Rattle.history.specs.declared.mark.Mark.TheVariants.{Open, Detected, Untestable}
+use Rattle.history.specs.declared.mark.Mark.TheVariants.{Detected, Untestable}
 
 -- there is one output at which every filling of the vector shows the fault of this number
 pub record ShownByFillings (c : Netlist) (f : ℕ) (x : Cells) : Type 0 where

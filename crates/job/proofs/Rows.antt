@@ -1,5 +1,5 @@
 -- The outputs of a good card as a row of characters that reads back.
-use Rattle.std.proofs.Common.{◌≡◌, ℕ, ◌-◌, ◌≤◌, List, [], ◌∷◌, ◌++◌, map, length, get_or, take, drop, sym, refl, ap, ◌∙◌, subst, arith}
+use Rattle.std.proofs.Common.{◌≡◌, ℕ, List, [], ◌∷◌, map, length, get_or, take, drop, sym, refl, ap, ◌∙◌, subst}
 use lib.ListN.{length-map}
 use Rattle.std.proofs.lemmas.List.{take_at}
 use Rattle.card.specs.Netlists.{Netlist}
@@ -35,7 +35,7 @@ module _ (c : Netlist) (x : Cells) (m : ℕ) (is : m ≡ length c.outputs) (star
   shows_outputs y prints form truth =
       let p : printed (length c.outputs) y ≡ characters c x = subst (λ (k : ℕ). printed k y ≡ characters c x) is (prints ∙ row_is) in
       record {
-        in_form_lem = subst (λ (k : ℕ). InForm k y) is form;
+        is_in_form = subst (λ (k : ℕ). InForm k y) is form;
         prints_what_the_tester_expects = p;
         a_bit_shown_is_what_every_filling_makes = subst (Truthful c x) (sym p) truth;
       }

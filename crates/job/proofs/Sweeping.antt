@@ -1,6 +1,5 @@
 -- The loop of a sweep, fault by fault.
-use Rattle.std.proofs.Common.{◌≡◌, ℕ, ◌+◌, ◌<◌, ◌≤◌, Bool, true, false, cond, not, ◌&&◌, List, [], ◌∷◌, map, length, get_or, set, Ok, Err, vec_items, count_by, Result, sym, refl, ap, ◌∙◌, subst, ⊎_elim, arith, length-set, get_or-set_other, get_or-set_same}
-use lib.ListN.{length-map}
+use Rattle.std.proofs.Common.{◌≡◌, ℕ, ◌+◌, ◌<◌, ◌≤◌, Bool, true, false, cond, not, ◌&&◌, List, map, length, get_or, set, Ok, Err, vec_items, count_by, sym, refl, ap, ◌∙◌, subst, ⊎_elim, arith, length-set, get_or-set_other, get_or-set_same}
 use Rattle.std.specs.List.{range_with_len}
 use Rattle.std.proofs.lemmas.List.FromFn.{fill_by_all, sum_by-map-range_with_len_more}
 use Rattle.std.proofs.lemmas.List.{get_or-map}
@@ -10,11 +9,10 @@ use Rattle.vectors.specs.Vectors.{Cells}
 use Rattle.vectors.specs.Views.{cells_of}
 use Rattle.vectors.specs.declared.vector.Vector.{Vector}
 use Rattle.history.specs.Changing.{sweeping, swept_mark}
-use Rattle.history.specs.Granting.{catches_fault, sweep_count, sweep_marks, sweeps}
+use Rattle.history.specs.Granting.{catches_fault, sweep_count, sweeps}
 use Rattle.history.specs.Views.{View, blank, is_open, is_taken, mark, vector_at}
 use Rattle.history.specs.declared.mark.Mark.{Mark}
 use Rattle.history.specs.declared.mark.Mark.TheVariants.{Open, Detected}
-use Rattle.history.specs.declared.refusal.VectorRefusal.{VectorRefusal}
 use Rattle.history.specs.declared.refusal.VectorRefusal.TheVariants as vector
 use Rattle.job.specs.Tables.{card_of, view_of}
 use Rattle.job.specs.declared.table.Table.{Table}

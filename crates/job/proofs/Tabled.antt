@@ -1,11 +1,11 @@
 -- What single calls make of the lists that a job holds.
-use Rattle.std.proofs.Common.{◌≡◌, ℕ, ◌/◌, ◌%◌, ◌<◌, ◌≤◌, Bool, true, false, cond, eqb, ltb, List, [], ◌∷◌, ◌++◌, map, length, set, Some, None, Ok, Err, Option, Result, sym, refl, ap, ◌∙◌, subst, arith}
+use Rattle.std.proofs.Common.{◌≡◌, ℕ, ◌/◌, ◌%◌, ◌<◌, ◌≤◌, Bool, true, false, cond, eqb, ltb, List, [], ◌∷◌, ◌++◌, map, length, set, Some, None, Ok, Err, Option, sym, ap, ◌∙◌, subst, arith}
 use lib.ListN.{length-map}
 use Rattle.std.proofs.lemmas.List.{map_push}
 use Rattle.std.proofs.lemmas.Bool.{le-ltb, lt-ltb}
 use Rattle.card.specs.Netlists.{Netlist}
 use Rattle.signal.specs.declared.line.Stuck.{Stuck}
-use Rattle.vectors.specs.Vectors.{Cells, holding, in_form}
+use Rattle.vectors.specs.Vectors.{Cells, in_form}
 use Rattle.vectors.specs.Views.{cells_of}
 use Rattle.vectors.specs.declared.vector.Vector.{Vector}
 use Rattle.faults.specs.Catching.{catches}
@@ -22,7 +22,6 @@ use Rattle.history.specs.declared.mark.Mark.{Mark}
 use Rattle.history.specs.declared.mark.Mark.TheVariants.{Detected}
 use Rattle.history.specs.declared.refusal.AddRefusal.TheVariants as add
 use Rattle.history.specs.declared.refusal.SearchRefusal.TheVariants as seek
-use Rattle.job.specs.Tables.{SearchAnswers}
 
 -- ---- catching by number
 

@@ -1,5 +1,5 @@
 -- What a job shows of itself: the mark of a fault, a vector with what the good card's outputs show for it, and counts.
-use Rattle.std.specs.Prelude.{◌≡◌, ℕ, ◌<◌, Bool, cond, List, length, Ok, Err, count_by, Result, nat_lt}
+use Rattle.std.specs.Prelude.{◌≡◌, ℕ, ◌<◌, cond, length, Ok, Err, count_by, Result, nat_lt}
 use Rattle.card.specs.Netlists.{Netlist}
 use Rattle.vectors.specs.Rows.{printed}
 use Rattle.vectors.specs.Vectors.{Cells, InForm}
@@ -20,7 +20,7 @@ mark_shown c v f = cond (nat_lt f (fault_count c)) (Ok (record { mark = mark v f
 
 -- y holds, as two numbers with bit i for output i, what the outputs of the good card show for x
 pub record ShowsOutputs (c : Netlist) (x y : Cells) : Type 0 where
-  pub in_form_lem : InForm (length c.outputs) y
+  pub is_in_form : InForm (length c.outputs) y
   pub prints_what_the_tester_expects : printed (length c.outputs) y ≡ characters c x
   pub a_bit_shown_is_what_every_filling_makes : Truthful c x (printed (length c.outputs) y)
 

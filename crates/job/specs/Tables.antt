@@ -30,8 +30,8 @@ closed_with (Ok x) = Ok tt
 closed_with (Err back) = Err back.why
 
 -- a ticket as the history knows it, whoever gave it
-abbrev pub known_as_lem : Ticket → Bool → KnownTicket
-known_as_lem t own = record { fault = t.fault; own = own }
+abbrev pub known_as : Ticket → Bool → KnownTicket
+known_as t own = record { fault = t.fault; own = own }
 
 -- a search: granted, the solver's answer is entered; refused, neither the job nor the solver changes. m and n are what the solver holds before and after
 abbrev pub SearchAnswers : Netlist → View → ℕ → ℕ → Model → Result Solved SearchRefusal → View → Model → Type 0

@@ -12,7 +12,7 @@ ghost use Rattle.history.specs.Promises.{Stands};
 ghost use Rattle.history.specs.Steps.{added, closed, merged, searched, Step, swept, took};
 ghost use Rattle.history.specs.Views.{new_view};
 ghost use Rattle.job.specs.Jobs.{card_held, held};
-ghost use Rattle.job.specs.Tables.{closed_with, granted, known_as_lem, SearchAnswers};
+ghost use Rattle.job.specs.Tables.{closed_with, granted, known_as, SearchAnswers};
 
 use crate::job::Job;
 use crate::table::Table;
@@ -55,7 +55,7 @@ impl Job {
         ensures the_solvers_answer_is_entered_or_a_refusal_changes_neither_job_nor_solver { SearchAnswers (card_held self.old) (held self.old) ticket.now.fault budget (S.Solver.model solver.old) result (held self.new) (S.Solver.model solver.new) }
         ensures the_solver_answered_in_its_own_way { IfOk result (λ solved. (s : StuckLine) → stuck_of (card_held self.old) ticket.now.fault ≡ Some s → S.Answering.answering (holds_formula (card_held self.old) s) budget solved (S.Solver.model solver.new)) }
         ensures the_card_stays { card_held self.new ≡ card_held self.old }
-        ensures is_a_step_of_the_history { (own : Bool) → Step (card_held self.old) (held self.old) (searched (known_as_lem ticket.now own) budget result) (held self.new) }
+        ensures is_a_step_of_the_history { (own : Bool) → Step (card_held self.old) (held self.old) (searched (known_as ticket.now own) budget result) (held self.new) }
         ensures the_law_of_jobs_holds { Stands (card_held self.new) (held self.new) }
     {
         self.table.search(ticket, solver, budget)
@@ -67,7 +67,7 @@ impl Job {
         ensures a_refusal_hands_the_ticket_back { IfErr result (λ back. back.ticket ≡ ticket) }
         ensures the_fault_is_closed_or_nothing_changes { held self.new ≡ (if is_ok result then closing (held self.old) ticket.fault else held self.old) }
         ensures the_card_stays { card_held self.new ≡ card_held self.old }
-        ensures is_a_step_of_the_history { (own : Bool) → Step (card_held self.old) (held self.old) (closed (known_as_lem ticket own) (closed_with result)) (held self.new) }
+        ensures is_a_step_of_the_history { (own : Bool) → Step (card_held self.old) (held self.old) (closed (known_as ticket own) (closed_with result)) (held self.new) }
         ensures the_law_of_jobs_holds { Stands (card_held self.new) (held self.new) }
     {
         self.table.close(ticket)

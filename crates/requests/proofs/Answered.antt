@@ -1,9 +1,9 @@
 -- What each call of the job answers is what its request is answered.
-use Rattle.std.proofs.Common.{◌≡◌, ℕ, ◌<◌, ◌≤◌, Bool, true, false, List, [], ◌∷◌, ◌++◌, length, get_or, Ok, Err, Result, sym, refl, ap, ◌∙◌, subst, inl, inr, arith}
+use Rattle.std.proofs.Common.{◌≡◌, ℕ, ◌<◌, ◌≤◌, Bool, true, List, [], ◌∷◌, ◌++◌, length, get_or, Ok, Err, Result, sym, refl, ap, ◌∙◌, subst, inl, inr, arith}
 use Rattle.std.specs.List.{insert, remove}
 use Rattle.card.specs.Netlists.{Netlist}
 use Rattle.solving.specs.declared.verdict.Solved.{Solved}
-use Rattle.history.specs.Steps.{Event, KnownTicket, Step, added, closed, merged, searched, swept, took}
+use Rattle.history.specs.Steps.{KnownTicket, Step, added, closed, merged, searched, swept, took}
 use Rattle.history.specs.Views.{View}
 use Rattle.history.specs.declared.refusal.AddRefusal.{AddRefusal}
 use Rattle.history.specs.declared.refusal.CloseRefusal.{CloseRefusal}
@@ -11,7 +11,7 @@ use Rattle.history.specs.declared.refusal.MergeRefusal.{MergeRefusal}
 use Rattle.history.specs.declared.refusal.SearchRefusal.{SearchRefusal}
 use Rattle.history.specs.declared.refusal.TakeRefusal.{TakeRefusal}
 use Rattle.history.specs.declared.refusal.VectorRefusal.{VectorRefusal}
-use Rattle.job.specs.Tables.{known_as_lem}
+use Rattle.job.specs.Tables.{known_as}
 use Rattle.job.specs.declared.ticket.Ticket.{Ticket}
 use Rattle.requests.specs.Serving.{Known, One, at, mine, reply_of}
 use Rattle.requests.specs.declared.reply.Reply.TheVariants as reply
@@ -41,8 +41,8 @@ module _ (c : Netlist) (v w : View) (ts : List Ticket) where
   merge_served i j a step = record { serves = λ ks known. (merged i j a ∷ [], ks, (known, (refl, (a, (refl, refl, step))))) }
 
 -- a ticket is known at its place, whoever gave it
-known_as : (k : KnownTicket) (t : Ticket) → k.fault ≡ t.fault → known_as_lem t k.own ≡ k
-known_as k t e = let f : t.fault ≡ k.fault = sym e in λ i. record { fault = f i; own = k.own }
+known_as_is : (k : KnownTicket) (t : Ticket) → k.fault ≡ t.fault → known_as t k.own ≡ k
+known_as_is k t e = let f : t.fault ≡ k.fault = sym e in λ i. record { fault = f i; own = k.own }
 
 searched_reply : (k l : KnownTicket) (b : ℕ) (a : Result Solved SearchRefusal) → reply_of (searched k b a) ≡ reply_of (searched l b a)
 searched_reply k l b (Ok s) = refl
@@ -53,18 +53,18 @@ closed_reply k l (Ok u) = refl
 closed_reply k l (Err e) = refl
 
 module _ (c : Netlist) (v w : View) (ts : List Ticket) (i : ℕ) (t : Ticket) (lt : i < length ts) (is : t ≡ get_or ts i t) where
-  pub search_served : (b : ℕ) (a : Result Solved SearchRefusal) → ((own : Bool) → Step c v (searched (known_as_lem t own) b a) w) → One c v ts (Search i b) (reply_of (searched (known_as_lem t true) b a)) w ts
+  pub search_served : (b : ℕ) (a : Result Solved SearchRefusal) → ((own : Bool) → Step c v (searched (known_as t own) b a) w) → One c v ts (Search i b) (reply_of (searched (known_as t true) b a)) w ts
   search_served b a step = record {
     serves = λ ks known.
-        let same = known_as (at ks i) t (known_at ks ts i t known lt is) in
+        let same = known_as_is (at ks i) t (known_at ks ts i t known lt is) in
         let long : i < length ks = omega (arith, lt, known_long ks ts known) in
-        (searched (at ks i) b a ∷ [], ks, (known, (refl, inl (long, (a, (refl, searched_reply (known_as_lem t true) (at ks i) b a, subst (λ (k : KnownTicket). Step c v (searched k b a) w) same (step (at ks i).own)))))));
+        (searched (at ks i) b a ∷ [], ks, (known, (refl, inl (long, (a, (refl, searched_reply (known_as t true) (at ks i) b a, subst (λ (k : KnownTicket). Step c v (searched k b a) w) same (step (at ks i).own)))))));
   }
 
-  pub close_granted : (us : List Ticket) → us ≡ remove ts i → ((own : Bool) → Step c v (closed (known_as_lem t own) (Ok tt)) w) → One c v ts (Close i) reply.Closed w us
+  pub close_granted : (us : List Ticket) → us ≡ remove ts i → ((own : Bool) → Step c v (closed (known_as t own) (Ok tt)) w) → One c v ts (Close i) reply.Closed w us
   close_granted us gone step = record {
     serves = λ ks known.
-        let same = known_as (at ks i) t (known_at ks ts i t known lt is) in
+        let same = known_as_is (at ks i) t (known_at ks ts i t known lt is) in
         let long : i < length ks = omega (arith, lt, known_long ks ts known) in (
           closed (at ks i) (Ok tt) ∷ [],
           remove ks i,
@@ -76,17 +76,17 @@ module _ (c : Netlist) (v w : View) (ts : List Ticket) (i : ℕ) (t : Ticket) (l
   }
 
   pub close_refused : (rest us : List Ticket) (back : Ticket) (e : CloseRefusal) → rest ≡ remove ts i → back ≡ t → us ≡ insert rest i back
-      → ((own : Bool) → Step c v (closed (known_as_lem t own) (Err e)) w) → One c v ts (Close i) (reply_of (closed (known_as_lem t true) (Err e))) w us
+      → ((own : Bool) → Step c v (closed (known_as t own) (Err e)) w) → One c v ts (Close i) (reply_of (closed (known_as t true) (Err e))) w us
   close_refused rest us back e gone kept put step = record {
     serves = λ ks known.
-        let same = known_as (at ks i) t (known_at ks ts i t known lt is) in
+        let same = known_as_is (at ks i) t (known_at ks ts i t known lt is) in
         let long : i < length ks = omega (arith, lt, known_long ks ts known) in
         let as_before : us ≡ ts = put ∙ ap (λ (x : Ticket). insert rest i x) kept ∙ ap (λ (xs : List Ticket). insert xs i t) gone ∙ put_back ts i t lt is in (
           closed (at ks i) (Err e) ∷ [],
           ks,
           (
             subst (Known ks) (sym as_before) known,
-            inl (long, (Err e, (refl, closed_reply (known_as_lem t true) (at ks i) (Err e), subst (λ (k : KnownTicket). Step c v (closed k (Err e)) w) same (step (at ks i).own)), refl)),
+            inl (long, (Err e, (refl, closed_reply (known_as t true) (at ks i) (Err e), subst (λ (k : KnownTicket). Step c v (closed k (Err e)) w) same (step (at ks i).own)), refl)),
           ),
         );
   }

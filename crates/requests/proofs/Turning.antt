@@ -1,20 +1,19 @@
 -- Requests served in turn keep the law.
-use Rattle.std.proofs.Common.{◌≡◌, ℕ, zero, suc, ◌+◌, ◌<◌, ◌≤◌, Bool, true, false, cond, ◌⊎◌, List, [], ◌∷◌, ◌++◌, length, get_or, is_ok, Ok, Err, Result, sym, refl, ap, ◌∙◌, subst, ⊎_elim, add-one, arith, length-append}
+use Rattle.std.proofs.Common.{◌≡◌, ℕ, zero, suc, ◌+◌, ◌<◌, ◌≤◌, Bool, true, false, cond, List, [], ◌∷◌, ◌++◌, length, get_or, is_ok, Result, sym, refl, ap, ◌∙◌, subst, ⊎_elim, add-one, arith, length-append}
 use Rattle.std.specs.List.{remove}
 use Rattle.std.proofs.lemmas.List.{get_or_default}
 use Rattle.card.specs.Netlists.{Lawful, Netlist}
 use Rattle.solving.specs.declared.verdict.Solved.{Solved}
-use Rattle.history.specs.Histories.{History, LeadsTo, OnlyOwn, Run}
-use Rattle.history.specs.Promises.{Keeps, Reached, Stands}
-use Rattle.history.specs.Steps.{Event, KnownTicket, Step, closed, searched, took}
+use Rattle.history.specs.Histories.{History, OnlyOwn, Run}
+use Rattle.history.specs.Promises.{Reached}
+use Rattle.history.specs.Steps.{Event, KnownTicket, closed, searched, took}
 use Rattle.history.specs.Views.{View, new_view}
 use Rattle.history.specs.declared.refusal.CloseRefusal.{CloseRefusal}
 use Rattle.history.specs.declared.refusal.SearchRefusal.{SearchRefusal}
-use Rattle.history.specs.declared.refusal.TakeRefusal.{TakeRefusal}
 use Rattle.history.proofs.Promised.{law, run_keeps}
 use Rattle.history.proofs.Reaching.{reached_stands, run_append}
 use Rattle.job.specs.declared.ticket.Ticket.{Ticket}
-use Rattle.requests.specs.Running.{AllOwn, Extends, Runs}
+use Rattle.requests.specs.Running.{AllOwn, Runs}
 use Rattle.requests.specs.Serving.{Idle, Known, Meets, One, Served, Serves, at, mine}
 use Rattle.requests.specs.declared.reply.Reply.{Reply}
 use Rattle.requests.specs.declared.request.Request.{Request}

@@ -1,6 +1,6 @@
 -- The law of a whole run of requests: whatever history led to the job, these requests extend it by their calls, and after the longer
 -- history the promise holds, no verdict is lost, and where only the job's own tickets were met, that is still so.
-use Rattle.std.specs.Prelude.{◌≡◌, ℕ, true, List, [], ◌∷◌, ◌++◌, length}
+use Rattle.std.specs.Prelude.{◌≡◌, true, List, [], ◌∷◌, ◌++◌, length}
 use Rattle.card.specs.Netlists.{Netlist}
 use Rattle.history.specs.Histories.{History, LeadsTo, OnlyOwn}
 use Rattle.history.specs.Promises.{Keeps, Law, Promise, Stands}

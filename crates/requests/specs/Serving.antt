@@ -1,6 +1,6 @@
 -- One request: the call that it comes to, what is answered, and the tickets afterwards.
 -- A request for a ticket that the wallet does not have comes to no call.
-use Rattle.std.specs.Prelude.{◌≡◌, ℕ, zero, suc, ◌<◌, ◌≤◌, Bool, true, cond, ◌⊎◌, List, [], ◌∷◌, ◌++◌, map, length, is_ok, Ok, Err, Result, slice_index_or}
+use Rattle.std.specs.Prelude.{◌≡◌, ℕ, zero, suc, ◌<◌, ◌≤◌, true, cond, ◌⊎◌, List, [], ◌∷◌, ◌++◌, map, length, is_ok, Ok, Err, Result, slice_index_or}
 use Rattle.std.specs.List.{remove}
 use Rattle.card.specs.Netlists.{Netlist}
 use Rattle.solving.specs.declared.verdict.Solved.{Solved}

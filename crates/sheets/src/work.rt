@@ -6,7 +6,7 @@ ghost use Rattle.job.specs.Jobs.{card_held, held};
 ghost use Rattle.sheets.specs.Working.{NoneTaken, sheet_view, working};
 
 use crate::progress::Progress;
-use job::{Back, Job};
+use job::Job;
 use swift_solvers::Backtracking;
 
 // The steps that a search may take.
@@ -26,12 +26,7 @@ fn work_on(job: &mut Job, solver: &mut Backtracking, fault: usize)
     let _ = job.search(&ticket, solver, BUDGET);
     match job.close(ticket) {
         Ok(()) => {}
-        Err(back) => {
-            let Back {
-                why: _,
-                ticket: _kept,
-            } = back;
-        }
+        Err(_back) => unreachable(),
     }
     if listed < job.vectors().len() {
         let _ = job.sweep(listed);

@@ -1,5 +1,5 @@
 -- What two runs promise joins.
-use Rattle.std.proofs.Common.{◌≡◌, ℕ, Bool, true, false, List, ◌++◌, sym, refl, ap, ◌∙◌, subst}
+use Rattle.std.proofs.Common.{◌≡◌, ℕ, true, List, ◌++◌, refl, subst}
 use Rattle.std.proofs.lemmas.Bool.{false≢true}
 use Rattle.card.specs.Netlists.{Netlist}
 use Rattle.history.specs.Promises.{Keeps}
@@ -10,7 +10,7 @@ use Rattle.job.specs.declared.ticket.Ticket.{Ticket}
 use Rattle.requests.specs.Running.{Runs}
 use Rattle.requests.specs.declared.reply.Reply.{Reply}
 use Rattle.requests.specs.declared.request.Request.{Request}
-use Rattle.two_solvers.specs.Joining.{BothServed, Joined}
+use Rattle.two_solvers.specs.Joining.{Joined}
 
 number : (m : Mark) → is_detected m ≡ true → (i : ℕ) × (m ≡ Detected i)
 number Open e = absurd (false≢true e)

@@ -1,5 +1,5 @@
 -- Two runs on one job: whatever history led to it is extended by the calls of both, and the promise holds over the joined history.
-use Rattle.std.specs.Prelude.{ℕ, List, ◌++◌, length}
+use Rattle.std.specs.Prelude.{List, ◌++◌, length}
 use Rattle.card.specs.Netlists.{Netlist}
 use Rattle.history.specs.Histories.{History, LeadsTo, OnlyOwn}
 use Rattle.history.specs.Promises.{Keeps, Promise}

@@ -1,6 +1,5 @@
-use Rattle.std.proofs.Common.{◌≡◌, ℕ, ◌≤◌, Bool, List, length, take, Some, sym, refl, ap, ◌∙◌, subst}
+use Rattle.std.proofs.Common.{◌≡◌, ℕ, ◌≤◌, Bool, List, length, take, Some, subst}
 use Rattle.card.specs.Views.{netlist_of}
-use Rattle.faults.specs.Thinning.{thinned}
 use Rattle.vectors.specs.Views.{cells_of}
 use Rattle.card.specs.Netlists.{Netlist}
 use Rattle.signal.specs.declared.line.Stuck.{Stuck}
@@ -8,7 +7,7 @@ use Rattle.formula.specs.Posing.{holds_formula}
 use Rattle.solving.specs.Models.{Model}
 use Rattle.solving.specs.declared.verdict.Solved.{Solved}
 use Rattle.asking.proofs.ask.ask.Given.{Over}
-use Rattle.solving.specs.declared.verdict.Verdict.TheVariants.{Found, None as Unsatisfiable, Undecided}
+use Rattle.solving.specs.declared.verdict.Verdict.TheVariants.{None as Unsatisfiable, Undecided}
 use Rattle.asking.specs.Findings.{fixing}
 use Rattle.asking.proofs.Asked.{found_asked, other_asked}
 use Rattle.asking.proofs.ask.ask.Goals as goal

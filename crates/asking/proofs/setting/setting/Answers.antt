@@ -1,8 +1,7 @@
-use Rattle.std.proofs.Common.{◌≡◌, ℕ, ◌+◌, ◌-◌, ◌*◌, ◌^◌, ◌<◌, Bool, true, false, cond, sym, refl, ap, ◌∙◌, subst, arith}
+use Rattle.std.proofs.Common.{◌≡◌, ℕ, ◌+◌, ◌-◌, ◌*◌, Bool, true, false, cond, sym, refl, ◌∙◌, subst, arith}
 use Rattle.std.proofs.lemmas.Bool.{false≢true}
 use mir.Facts.{Fits-bits}
 use mir.Val.{bool_byte}
-use Rattle.vectors.specs.Views.{cells_of}
 use Rattle.asking.proofs.Counted.{Weighing, weighing_none, weighing_more, weighing_all, weighing_in_form, care_fits, value_fits}
 use Rattle.asking.proofs.setting.setting.Goals as goal
 

@@ -2,7 +2,7 @@ use Rattle.std.proofs.Common.{vec_items, sym, subst}
 use Rattle.history.specs.Views.{View}
 use Rattle.job.specs.Jobs.{held}
 use Rattle.desk.specs.Keeping.{Kept}
-use Rattle.desk.proofs.Keeping.{last_closed, last_not_refused, none_taken}
+use Rattle.desk.proofs.Keeping.{last_closed, last_not_refused}
 use Rattle.desk.proofs.closing.close_each.Goals as goal
 
 pub loop-ticket-preserved : goal.loop-ticket-preserved

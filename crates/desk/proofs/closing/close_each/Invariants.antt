@@ -1,4 +1,4 @@
-use Rattle.std.proofs.Common.{ℕ, vec_items, vec_len}
+use Rattle.std.proofs.Common.{vec_items, vec_len}
 use Rattle.job.specs.Jobs.{held}
 use Rattle.desk.specs.Keeping.{Kept}
 use Rattle.desk.proofs.closing.close_each.Given as goal

@@ -1,5 +1,4 @@
 use Rattle.history.proofs.Promised.{law}
-use Rattle.history.proofs.Reaching.{reached_stands}
 use Rattle.history.proofs.laws.law_of_jobs_stands.Goals as goal
 
 pub returns : goal.returns

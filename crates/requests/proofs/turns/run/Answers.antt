@@ -1,11 +1,11 @@
-use Rattle.std.proofs.Common.{◌≡◌, ℕ, ◌<◌, List, length, vec_items, sym, ◌∙◌, subst, arith, rules}
+use Rattle.std.proofs.Common.{◌≡◌, ◌<◌, List, length, vec_items, ◌∙◌, subst, arith}
 use Rattle.std.proofs.lemmas.List.{get_or_default}
 use Rattle.card.specs.Netlists.{Netlist}
 use Rattle.history.specs.Promises.{Reached}
 use Rattle.job.proofs.Reaching.{lawful}
 use Rattle.job.specs.Jobs.{card_held, held}
 use Rattle.job.specs.declared.ticket.Ticket.{Ticket}
-use Rattle.requests.proofs.Turning.{SoFar, all_served, none_yet, one_more}
+use Rattle.requests.proofs.Turning.{SoFar, all_served, one_more}
 use Rattle.requests.proofs.turns.run.Goals as goal
 
 pub loop-request-preserved : goal.loop-request-preserved

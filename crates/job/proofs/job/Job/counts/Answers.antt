@@ -1,6 +1,5 @@
-use Rattle.std.proofs.Common.{◌≡◌, ℕ, Bool, List, vec_items, count_by, ap, ◌∙◌}
+use Rattle.std.proofs.Common.{◌≡◌, Bool, vec_items, count_by, ap, ◌∙◌}
 use Rattle.history.specs.Views.{is_detected, is_open, is_untestable}
-use Rattle.history.specs.declared.mark.Mark.{Mark}
 use Rattle.job.proofs.Reaching.{stands}
 use Rattle.job.proofs.job.Job.counts.Goals as goal
 

@@ -1,6 +1,5 @@
 use Rattle.history.specs.Steps.{swept}
 use Rattle.job.proofs.Reaching.{reached_by, stands}
-use Rattle.job.specs.Tables.{card_of, view_of}
 use Rattle.job.proofs.job.Job.sweep.Goals as goal
 
 pub invariant_of-self : goal.invariant_of-self

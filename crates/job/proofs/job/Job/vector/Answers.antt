@@ -1,4 +1,4 @@
-use Rattle.std.proofs.Common.{◌≡◌, ℕ, ◌<◌, length, vec_items, sym, refl, ap, subst, arith}
+use Rattle.std.proofs.Common.{◌<◌, length, vec_items, refl, subst, arith}
 use lib.ListN.{length-map}
 use Rattle.card.specs.Netlists.{Netlist}
 use Rattle.card.specs.Views.{netlist_of}
@@ -6,7 +6,7 @@ use Rattle.vectors.specs.Vectors.{Cells}
 use Rattle.history.specs.Views.{vector_at}
 use Rattle.vectors.specs.Views.{cells_of}
 use Rattle.job.specs.Showing.{ShowsOutputs}
-use Rattle.job.specs.Tables.{card_of, view_of}
+use Rattle.job.specs.Tables.{view_of}
 use Rattle.job.specs.declared.table.Table.{Table}
 use Rattle.job.proofs.Reaching.{stands}
 use Rattle.job.proofs.Sweeping.{cells_listed}

@@ -3,7 +3,6 @@ use lib.ListN.{length-map}
 use Rattle.vectors.specs.Vectors.{in_form}
 use Rattle.vectors.specs.Views.{cells_of}
 use Rattle.card.specs.Netlists.{Netlist}
-use Rattle.history.specs.Views.{View}
 use Rattle.job.specs.Tables.{card_of, view_of}
 use Rattle.job.proofs.Tabled.{add_granted, add_full, added_last}
 use Rattle.job.proofs.table.Table.add.Goals as goal

@@ -1,4 +1,4 @@
-use Rattle.std.proofs.Common.{◌≤◌, false, length, vec_items, sym, arith, rules}
+use Rattle.std.proofs.Common.{◌≤◌, false, length, vec_items, sym, arith}
 use Rattle.std.proofs.lemmas.List.{get_or_past}
 use Rattle.std.proofs.lemmas.Bool.{false≢true}
 use Rattle.job.proofs.table.Table.holds.Goals as goal

@@ -1,4 +1,4 @@
-use Rattle.std.proofs.Common.{◌≡◌, ℕ, ◌<◌, ◌≤◌, Bool, true, false, cond, length, get_or, is_ok, Ok, Err, vec_items, Result, sym, refl, ap, ◌∙◌, subst, ⊎_elim, arith}
+use Rattle.std.proofs.Common.{◌≡◌, ℕ, ◌<◌, ◌≤◌, true, false, cond, length, get_or, is_ok, Err, vec_items, Result, sym, refl, ap, ◌∙◌, ⊎_elim, arith}
 use lib.ListN.{length-map}
 use Rattle.std.proofs.lemmas.Result.{err_from_is_err_and}
 use Rattle.vectors.specs.Merging.{mergeable, union}
@@ -6,10 +6,9 @@ use Rattle.vectors.specs.Vectors.{Cells}
 use Rattle.vectors.specs.Views.{cells_of}
 use Rattle.vectors.specs.declared.vector.Vector.{Vector}
 use Rattle.history.specs.Changing.{merging}
-use Rattle.history.specs.Granting.{merges}
 use Rattle.history.specs.Views.{vector_at}
 use Rattle.history.specs.declared.refusal.MergeRefusal.{MergeRefusal}
-use Rattle.job.specs.Tables.{card_of, granted, view_of}
+use Rattle.job.specs.Tables.{granted, view_of}
 use Rattle.job.specs.declared.table.Table.{Table}
 use Rattle.job.proofs.Merging.{first_missing, merged_view, one_vector, second_missing, two_vectors}
 use Rattle.job.proofs.Sweeping.{cells_listed}

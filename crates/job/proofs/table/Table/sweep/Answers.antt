@@ -1,4 +1,4 @@
-use Rattle.std.proofs.Common.{◌≡◌, ℕ, ◌+◌, ◌<◌, ◌≤◌, length, vec_items, sym, refl, ap, ◌∙◌, subst, arith}
+use Rattle.std.proofs.Common.{◌≡◌, ℕ, ◌+◌, ◌<◌, ◌≤◌, length, vec_items, sym, refl, ap, subst, arith}
 use lib.ListN.{length-map}
 use Rattle.vectors.specs.Views.{cells_of}
 use Rattle.job.specs.Tables.{card_of, view_of}

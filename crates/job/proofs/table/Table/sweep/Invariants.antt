@@ -1,4 +1,3 @@
-use Rattle.std.proofs.Common.{◌≡◌, ◌<◌, length, vec_items}
 use Rattle.vectors.specs.Views.{cells_of}
 use Rattle.job.proofs.Sweeping.{SweptTo}
 use Rattle.job.proofs.table.Table.sweep.Given as goal
