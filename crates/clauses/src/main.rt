@@ -13,7 +13,7 @@ use std::alloc::{AllocError, Global};
 use std::fmt::Write;
 use std::io::{BufRead, BufReader};
 use std::{env, fs};
-use swift_solvers::Backtracking;
+use solvers::Backtracking;
 
 // A clause takes at least one of a solver's places, so there are no more clauses than these.
 const PLACES: usize = 9216;

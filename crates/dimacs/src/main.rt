@@ -5,7 +5,7 @@
 use solving::{Solver, Verdict};
 use std::alloc::{AllocError, Global};
 use std::io::{BufRead, BufReader};
-use swift_solvers::{Backtracking, Counting};
+use solvers::{Backtracking, Counting};
 
 // What comment lines have set so far.
 #[derive(Clone, Copy)]

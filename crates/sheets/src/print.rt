@@ -18,7 +18,7 @@ use job::Job;
 use reading::read::from_bytes;
 use report::sheet::{refusal_into, report_into};
 use std::alloc::{AllocError, Global};
-use swift_solvers::Backtracking;
+use solvers::Backtracking;
 
 // Room for every sheet.
 pub const SHEET_ROOM: usize = 65_536;

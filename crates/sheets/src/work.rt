@@ -7,7 +7,7 @@ ghost use Rattle.sheets.specs.Working.{NoneTaken, sheet_view, working};
 
 use crate::progress::Progress;
 use job::Job;
-use swift_solvers::Backtracking;
+use solvers::Backtracking;
 
 // The steps that a search may take.
 const BUDGET: u64 = 1_000_000;

@@ -14,7 +14,7 @@ use solving::{Solved, Verdict};
 use std::alloc::{AllocError, Global};
 use std::io::{BufRead, BufReader};
 use std::{env, fs};
-use swift_solvers::{Backtracking, Counting};
+use solvers::{Backtracking, Counting};
 use vectors::row::character;
 use vectors::vector::Vector;
 

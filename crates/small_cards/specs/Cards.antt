@@ -1,9 +1,11 @@
--- The small cards A and B and the benchmark c17, as bytes and as netlists.
-use Rattle.std.specs.Prelude.{ℕ, List, [], ◌∷◌}
+-- The small cards A and B and the benchmark c17, as bytes and as netlists, and three stuck lines.
+use Rattle.std.specs.Prelude.{ℕ, true, false, List, [], ◌∷◌}
 use Rattle.card.specs.declared.function.Function.TheVariants.{And2, Nand2, Or2}
 use Rattle.card.specs.declared.gate.Gate.{Gate}
 use Rattle.card.specs.declared.gate.Operands.TheVariants.{Two}
 use Rattle.card.specs.Netlists.{Netlist}
+use Rattle.signal.specs.declared.line.Line.TheVariants.{Net}
+use Rattle.signal.specs.declared.line.Stuck.{Stuck}
 
 -- inputs 0 to 2, net 3 AND2(0, 1), net 4 OR2(3, 2), output 4
 abbrev pub card_a : Netlist
@@ -28,3 +30,12 @@ nand a b = record { function = Nand2; operands = Two a b }
 -- the benchmark circuit of five inputs, six NAND gates and two outputs
 abbrev pub c17 : Netlist
 c17 = record { inputs = 5; gates = nand 0 2 ∷ nand 2 3 ∷ nand 1 6 ∷ nand 6 4 ∷ nand 5 7 ∷ nand 7 8 ∷ []; outputs = 9 ∷ 10 ∷ [] }
+
+abbrev pub net_zero_at_zero : Stuck
+net_zero_at_zero = record { line = Net 0; level = false }
+
+abbrev pub net_one_at_zero : Stuck
+net_one_at_zero = record { line = Net 1; level = false }
+
+abbrev pub net_three_at_one : Stuck
+net_three_at_one = record { line = Net 3; level = true }

@@ -1,11 +1,11 @@
--- The worked cases, each by the definitions that the contracts of the calls use.
-use Rattle.std.specs.Prelude.{◌≡◌, true, false, [], ◌∷◌, ◌++◌, length, replicate, Some, Ok, Err}
+-- The worked cases as one group, each by the definitions that the contracts of the calls use.
+use Rattle.std.specs.Prelude.{◌≡◌, ℕ, true, false, List, [], ◌∷◌, ◌++◌, length, replicate, Some, Ok, Err}
+use Rattle.card.specs.Netlists.{Netlist}
 use Rattle.card.specs.Parts.{netlist_from, smallest}
 use Rattle.reading.specs.Reading.{reading}
 use Rattle.reading.specs.declared.fault.CardFault.TheVariants.{Ended, Incomplete, Limit, NamedTwice, Operand}
 use Rattle.reading.specs.declared.fault.OperandFault.TheVariants.{Undeclared}
-use Rattle.signal.specs.declared.line.Line.TheVariants.{Net, Pin}
-use Rattle.signal.specs.declared.line.Stuck.{Stuck}
+use Rattle.signal.specs.declared.line.Line.TheVariants.{Pin}
 use Rattle.vectors.specs.Merging.{mergeable, union}
 use Rattle.vectors.specs.Vectors.{holding, in_form}
 use Rattle.solving.specs.Literals.{places}
@@ -14,7 +14,10 @@ use Rattle.faults.specs.Sites.{fault_count, stuck_of}
 use Rattle.faults.specs.Thinning.{thinned}
 use Rattle.formula.specs.Formulas.{formula_of}
 use Rattle.formula.specs.Variables.{variables}
-use Rattle.small_cards.specs.Cards.{bytes_a, bytes_b, c17, card_a, card_b, cut_b}
+use Rattle.small_cards.specs.Cards.{bytes_a, bytes_b, c17, card_a, card_b, cut_b, net_one_at_zero, net_three_at_one, net_zero_at_zero}
+use Rattle.small_cards.specs.Jobs.{Jobs}
+use Rattle.small_cards.specs.Searches.{Searches}
+use Rattle.small_cards.specs.Sheets.{Sheets}
 
 -- reading, and where it refuses
 pub record Readings : Type 0 where
@@ -34,14 +37,22 @@ pub record FaultCounts : Type 0 where
   pub a_wire_has_2 : fault_count smallest ≡ 2
   pub c17_has_34 : fault_count c17 ≡ 34
 
-abbrev pub net_three_at_one : Stuck
-net_three_at_one = record { line = Net 3; level = true }
+-- how large the formulas of two faults are: B, fault 2, is net 1 stuck at 0, and c17, fault 0, is net 0 stuck at 0
+pub record Formulas : Type 0 where
+  pub b_fault_2 : stuck_of card_b 2 ≡ Some net_one_at_zero
+  pub b_fault_2_has_10_variables : variables card_b ≡ 10
+  pub b_fault_2_has_22_clauses : length (formula_of card_b net_one_at_zero) ≡ 22
+  pub b_fault_2_has_72_places : places (formula_of card_b net_one_at_zero) ≡ 72
+  pub c17_fault_0 : stuck_of c17 0 ≡ Some net_zero_at_zero
+  pub c17_fault_0_has_25_variables : variables c17 ≡ 25
+  pub c17_fault_0_has_56_clauses : length (formula_of c17 net_zero_at_zero) ≡ 56
+  pub c17_fault_0_has_187_places : places (formula_of c17 net_zero_at_zero) ≡ 187
 
 -- in B a stuck branch is not its net: 10 shows net 0 stuck at 0, and does not show pin 0 of net 2 stuck at 0
 pub record BranchIsNotNet : Type 0 where
-  pub fault_0 : stuck_of card_b 0 ≡ Some (record { line = Net 0; level = false })
+  pub fault_0 : stuck_of card_b 0 ≡ Some net_zero_at_zero
   pub fault_8 : stuck_of card_b 8 ≡ Some (record { line = Pin 2 0; level = false })
-  pub the_net_is_caught : catches card_b (record { line = Net 0; level = false }) (holding 3 1) ≡ true
+  pub the_net_is_caught : catches card_b net_zero_at_zero (holding 3 1) ≡ true
   pub the_branch_is_not : catches card_b (record { line = Pin 2 0; level = false }) (holding 3 1) ≡ false
 
 -- A, fault 7: the setting 000 is thinned to X00; XX0, which freeing each cell alone would give, catches nothing, as X against 1 is no difference
@@ -51,15 +62,20 @@ pub record Thinning : Type 0 where
   pub x00_catches : catches card_a net_three_at_one (holding 6 0) ≡ true
   pub xx0_does_not : catches card_a net_three_at_one (holding 4 0) ≡ false
 
-pub record SmallCards : Type 0 where
-  pub readings : Readings
-  pub fault_counts : FaultCounts
-  pub branch_is_not_net : BranchIsNotNet
-  pub b_fault_2_has_10_variables : variables card_b ≡ 10
-  pub b_fault_2_has_22_clauses : length (formula_of card_b (record { line = Net 1; level = false })) ≡ 22
-  pub b_fault_2_has_72_places : places (formula_of card_b (record { line = Net 1; level = false })) ≡ 72
-  pub thinning : Thinning
+-- the fixed cells of two vectors together, and a vector that is out of form
+pub record Cells : Type 0 where
   pub merging_1x_with_10 : union (holding 1 1) (holding 3 1) ≡ holding 3 1
   pub merging_1x_with_10_is_granted : mergeable (holding 1 1) (holding 3 1) ≡ true
   pub merging_0x_with_10_is_refused : mergeable (holding 1 0) (holding 3 1) ≡ false
   pub care_3_with_one_input_is_refused : in_form 1 3 0 ≡ false
+
+pub record SmallCards : Type 0 where
+  pub readings : Readings
+  pub fault_counts : FaultCounts
+  pub branch_is_not_net : BranchIsNotNet
+  pub formulas : Formulas
+  pub thinning : Thinning
+  pub cells : Cells
+  pub searches : Searches
+  pub jobs : Jobs
+  pub sheets : Sheets

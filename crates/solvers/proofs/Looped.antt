@@ -1,18 +1,24 @@
 -- Each turn of backtracking's loop keeps its invariant, and each way out of it gives the answer of the definition.
-use Rattle.std.proofs.Common.{◌≡◌, ℕ, suc, ◌<◌, ◌≤◌, Bool, true, false, List, [], ◌∷◌, ◌++◌, map, length, take, drop, set, ℤ, Some, None, sym, refl, ap, ◌∙◌, subst, ap₂, arith, length-append, length-drop, length-take}
+use Rattle.std.proofs.Common.{◌≡◌, ℕ, suc, ◌+◌, ◌<◌, ◌≤◌, Bool, true, false, List, [], ◌∷◌, ◌++◌, map, length, take, drop, set, ℤ, Some, None, sym, refl, ap, ◌∙◌, subst, ap₂, arith, length-append, length-drop, length-take}
 use Rattle.solvers.specs.declared.decision.Decision.{Decision}
 use Rattle.solving.specs.Settings.{Setting, at, made, open_in}
 use Rattle.solving.specs.Literals.{place, wants}
-use Rattle.solving.specs.Closing.{closure, violated}
+use Rattle.solving.specs.Closing.{closure, violated, first_unit}
 use Rattle.solving.specs.Trials.{found, none, undecided}
 use Rattle.solving.specs.Backtracking.{backtracking, lowest, lowest_open, to_zero}
 use Rattle.solvers.specs.Resuming.{Frame, turned, deep, resume}
-use Rattle.solvers.specs.Trails.{unmade_all, frame_at, frames_of, Rising, Grown}
-use Rattle.solvers.specs.Looping.{OpenFrames, Kept}
+use Rattle.propagation.specs.Trails.{unmade_all, Grown}
+use Rattle.propagation.specs.Following.{Pending}
+use Rattle.solvers.specs.Trails.{frame_at, frames_of, Rising}
+use Rattle.solvers.specs.Looping.{OpenFrames, ClosedFrames, Kept}
 use Rattle.solving.proofs.Places.{open_falls, open_inside}
 use Rattle.solving.proofs.Costs.{lowest_law}
 use Rattle.solvers.proofs.Resumed.{turns}
-use Rattle.solvers.proofs.Trailing.{unset, frames_grown, frames_unwound, rising_more, rising_last, rising_push, open_unmade, unmade_length, grown_none, grown_more}
+use Rattle.solving.proofs.Closures.{rests}
+use Rattle.propagation.proofs.Trailing.{unset, grown_none, grown_more}
+use Rattle.propagation.proofs.Followed.{pending_made, pending_as}
+use Rattle.std.proofs.lemmas.List.{drop_at}
+use Rattle.solvers.proofs.Trailing.{frames_grown, frames_unwound, rising_more, rising_last, rising_push, open_unmade, unmade_length}
 
 map_last : (f : Decision → Frame) (cs : List Decision) (c : Decision) → map f (cs ++ (c ∷ [])) ≡ map f cs ++ (f c ∷ [])
 map_last f [] c = refl
@@ -26,9 +32,17 @@ open_push : (fs : List Frame) (f : Frame) → OpenFrames fs → at f.base f.choi
 open_push [] f o h = (h, tt)
 open_push (g ∷ fs) f o h = (o.0, open_push fs f o.1 h)
 
+closed_last : (cs : List (List ℤ)) (fs : List Frame) (f : Frame) → ClosedFrames cs (fs ++ (f ∷ [])) → ClosedFrames cs fs × (violated f.base cs ≡ false) × (first_unit f.base cs ≡ None)
+closed_last cs [] f o = (tt, o.0, o.1)
+closed_last cs (g ∷ fs) f o = let h = closed_last cs fs f o.2 in ((o.0, o.1, h.0), h.1, h.2)
+
+closed_push : (cs : List (List ℤ)) (fs : List Frame) (f : Frame) → ClosedFrames cs fs → violated f.base cs ≡ false → first_unit f.base cs ≡ None → ClosedFrames cs (fs ++ (f ∷ []))
+closed_push cs [] f o h g = (h, g, tt)
+closed_push cs (x ∷ fs) f o h g = (o.0, o.1, closed_push cs fs f o.2 h g)
+
 module _ (cs : List (List ℤ)) (budget : ℕ) (start : Setting) where
-  pub loop_begin : Kept cs budget start start start [] [] 0
-  loop_begin = record { same = refl; rising = omega arith; opened = tt; room = omega (arith, Rattle.solving.proofs.Closed.open_most (length start) start); long = refl }
+  pub loop_begin : (t : List ℤ) (ch : List Decision) → ch ≡ [] → length t + open_in (length start) start ≤ length start → Kept cs budget start start start t ch 0
+  loop_begin t ch e h = subst (λ (x : List Decision). Kept cs budget start start start t x 0) (sym e) (record { same = refl; rising = omega arith; opened = tt; closed = tt; room = h; long = refl })
 
   -- the frames stay as literals are made true
   frames_kept : (b d : Setting) (t u : List ℤ) (ch : List Decision) → Rising 0 (length t) ch → Grown b d t u → frames_of d u ch ≡ frames_of b t ch
@@ -42,6 +56,7 @@ module _ (cs : List (List ℤ)) (budget : ℕ) (start : Setting) where
         same = ap (λ (fs : List Frame). resume lowest cs budget fs (deep lowest cs budget a s)) f ∙ k.same;
         rising = rising_more 0 (length t) (length u) ch l k.rising;
         opened = subst OpenFrames (sym f) k.opened;
+        closed = subst (ClosedFrames cs) (sym f) k.closed;
         room = omega (arith, g.room, k.room);
         long = g.long ∙ k.long;
       }
@@ -68,6 +83,7 @@ module _ (cs : List (List ℤ)) (budget : ℕ) (start : Setting) where
         same = ap₂ (λ (fs : List Frame) (x : Setting). resume lowest cs budget fs (deep lowest cs budget x (suc s))) (f ∙ ap (λ (x : Setting). frames_of b t ch ++ (record { base = x; choice = record { var = j; bit = false } } ∷ [])) eb) (m ∙ ap (λ (x : Setting). set x j (Some false)) eb) ∙ sym q ∙ k.same;
         rising = rising_push 0 (length (t ++ (l ∷ []))) ch c (subst (λ n. Rising 0 n ch) (sym ca) k.rising) (simp length-append (omega (arith, ca)));
         opened = subst OpenFrames (sym f) (open_push (frames_of b t ch) (record { base = b; choice = record { var = j; bit = false } }) k.opened o);
+        closed = subst (ClosedFrames cs) (sym f) (closed_push cs (frames_of b t ch) (record { base = b; choice = record { var = j; bit = false } }) k.closed (ap (λ (x : Setting). violated x cs) eb ∙ v) (ap (λ (x : Setting). first_unit x cs) eb ∙ rests cs a));
         room = n.room;
         long = n.long;
       }
@@ -84,6 +100,7 @@ module _ (cs : List (List ℤ)) (budget : ℕ) (start : Setting) where
       let r = rising_last 0 (length t) gs c (subst (Rising 0 (length t)) ec k.rising) in
       let fs : frames_of b t ch ≡ frames_of b t gs ++ (frame_at b t c ∷ []) = ap (frames_of b t) ec ∙ map_last (frame_at b t) gs c in
       let os = open_last (frames_of b t gs) (frame_at b t c) (subst OpenFrames fs k.opened) in
+      let ks = closed_last cs (frames_of b t gs) (frame_at b t c) (subst (ClosedFrames cs) fs k.closed) in
       let fu = frames_unwound b t c.at 0 gs (omega (arith, r.1)) r.0 in
       let q = (turns lowest lowest_law.0 cs budget (frames_of b t ch) a s).turn (frames_of b t gs) (frame_at b t c) v fs h in
       let lt : length (take c.at t) ≡ c.at = length-take c.at t ∙ (omega (arith, r.1)) in
@@ -97,10 +114,28 @@ module _ (cs : List (List ℤ)) (budget : ℕ) (start : Setting) where
         same = ap₂ (λ (fs : List Frame) (x : Setting). resume lowest cs budget fs (deep lowest cs budget x (suc s))) fu m ∙ sym q ∙ k.same;
         rising = subst (λ n. Rising 0 n gs) (sym lt) r.0;
         opened = subst OpenFrames (sym fu) os.0;
+        closed = subst (ClosedFrames cs) (sym fu) ks.0;
         room = omega (arith, lt, ld, eo, ou, k.room, r.1);
         long = lb ∙ k.long;
       } in
       loop_grown (made base l) base (made base l) (take c.at t) (take c.at t ++ (l ∷ [])) gs (suc s) k1 (grown_more base base (take c.at t) (take c.at t) l (grown_none base (take c.at t)) ol)
+
+  -- what is to be followed up after a choice and after a turn: the latest literal alone
+  pub decide_pending : (a b : Setting) (t : List ℤ) (j n : ℕ) (l : ℤ) → b ≡ closure cs a → violated (closure cs a) cs ≡ false → lowest_open b ≡ Some j → place l ≡ j → n ≡ length t → Pending cs (made b l) (drop n (t ++ (l ∷ [])))
+  decide_pending a b t j n l eb v lo pl en =
+      let o : at b j ≡ None = lowest_law.0.opens b _ (choice_of b j lo) in
+      pending_as cs (made b l) (made b l) (l ∷ []) (drop n (t ++ (l ∷ []))) refl (sym (drop_at t (l ∷ []) n (sym en)))
+      (pending_made cs b l (ap (λ (x : Setting). violated x cs) eb ∙ v) (ap (λ (x : Setting). first_unit x cs) eb ∙ rests cs a) (ap (at b) pl ∙ o))
+
+  pub turn_pending : (a b : Setting) (t : List ℤ) (ch gs : List Decision) (c : Decision) (s n : ℕ) (l : ℤ) → Kept cs budget start a b t ch s → ch ≡ gs ++ (c ∷ []) → place l ≡ c.var → n ≡ c.at → Pending cs (made (unmade_all b (drop c.at t)) l) (drop n (take c.at t ++ (l ∷ [])))
+  turn_pending a b t ch gs c s n l k ec pl en =
+      let base = unmade_all b (drop c.at t) in
+      let r = rising_last 0 (length t) gs c (subst (Rising 0 (length t)) ec k.rising) in
+      let fs : frames_of b t ch ≡ frames_of b t gs ++ (frame_at b t c ∷ []) = ap (frames_of b t) ec ∙ map_last (frame_at b t) gs c in
+      let os = open_last (frames_of b t gs) (frame_at b t c) (subst OpenFrames fs k.opened) in
+      let ks = closed_last cs (frames_of b t gs) (frame_at b t c) (subst (ClosedFrames cs) fs k.closed) in
+      let lt : length (take c.at t) ≡ n = length-take c.at t ∙ (omega (arith, r.1, en)) in
+      pending_as cs (made base l) (made base l) (l ∷ []) (drop n (take c.at t ++ (l ∷ []))) refl (sym (drop_at (take c.at t) (l ∷ []) n lt)) (pending_made cs base l ks.1 ks.2 (ap (at base) pl ∙ os.1))
 
   -- the ways out
   pub loop_none : (a b : Setting) (t : List ℤ) (s : ℕ) → Kept cs budget start a b t [] s → violated (closure cs a) cs ≡ true → backtracking lowest cs budget start ≡ none s

@@ -10,6 +10,9 @@ use Rattle.solvers.specs.Resuming.{deep, Frame, turned, back, resume, Turns}
 use Rattle.solving.proofs.Places.{open_le, open_some, open_inside}
 use Rattle.solving.proofs.Closures.{closure_grows, closure_length}
 use Rattle.solving.proofs.Sounds.{fewer}
+use Rattle.solving.proofs.Ordering.{any_order}
+use Rattle.solving.specs.Orders.{Reaches}
+use Rattle.propagation.proofs.Reached.{reached_violated, reached_closure}
 
 module _ (rule : Rule) (law : Picks rule) (cs : List (List ℤ)) (budget : ℕ) where
   -- a level looks deeper only at the two settings of an open variable
@@ -63,6 +66,17 @@ module _ (rule : Rule) (law : Picks rule) (cs : List (List ℤ)) (budget : ℕ) 
   deep_chosen a s o e p =
       deep_level a s ∙ ap (λ v. unless_broken v s (λ _. chosen (rule (closure cs a)) (closure cs a) s (both budget (deep rule cs budget) (closure cs a) s))) e
       ∙ ap (λ q. chosen q (closure cs a) s (both budget (deep rule cs budget) (closure cs a) s)) p
+
+  -- from a setting that unit steps reach the recursion does what it does from their start
+  pub deep_reached : (a b : Setting) (s : ℕ) → Reaches cs a b → deep rule cs budget b s ≡ deep rule cs budget a s
+  deep_reached a b s r = go (violated (closure cs b) cs) refl where
+    go : (x : Bool) → violated (closure cs b) cs ≡ x → deep rule cs budget b s ≡ deep rule cs budget a s
+    go true e = deep_violated b s e ∙ sym (deep_violated a s (reached_violated cs a b r e))
+    go false e = deep_level b s ∙ ap (λ (x : Setting). level rule cs budget (deep rule cs budget) x s) (reached_closure cs a b r e) ∙ sym (deep_level a s)
+
+  -- and where those steps meet a violation there is nothing to be found
+  pub deep_broken : (a b : Setting) (s : ℕ) → Reaches cs a b → violated b cs ≡ true → deep rule cs budget a s ≡ none s
+  deep_broken a b s r e = deep_violated a s ((any_order cs a b r).broken e)
 
   step_on : (s : ℕ) (k : ℕ → Answer) → s < budget → step budget s k ≡ k (suc s)
   step_on s k h = ap (λ x. while x s k) (lt-ltb s budget h)

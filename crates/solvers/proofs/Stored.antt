@@ -4,8 +4,8 @@ use mathlib.Core.Bool.{false≢true}
 use Rattle.std.proofs.lemmas.List.{take_all, drop_at, take-append-le}
 use Rattle.solving.specs.Literals.{in_range, all_in_range, places}
 use Rattle.solving.specs.Models.{Model, begun, startable}
-use Rattle.solvers.specs.Scanning.{clauses_from, Ends, ends_well}
-use Rattle.solvers.proofs.Scanned.{ends_le}
+use Rattle.propagation.specs.Scanning.{clauses_from, Ends, ends_well}
+use Rattle.propagation.proofs.Scanned.{ends_le}
 
 and_left : (a b : Bool) → (a && b) ≡ true → a ≡ true
 and_left true b e = refl

@@ -1,36 +1,12 @@
--- The trail: what growing and unwinding it leaves of the setting and of the frames of earlier decisions.
-use Rattle.std.proofs.Common.{◌≡◌, ℕ, zero, suc, ◌+◌, ◌<◌, ◌≤◌, Bool, false, List, [], ◌∷◌, ◌++◌, length, take, drop, set, ℤ, Some, None, Option, sym, refl, ap, ◌∙◌, ap₂, append_assoc, append-nil, le_of_suc-le-suc, not-suc-le-zero, arith, length-append, length-set, take-append-drop, length-take, set-set}
-use lib.Seq.{set-get_or}
+-- The trail: what growing and unwinding it leaves of the frames of earlier decisions.
+use Rattle.std.proofs.Common.{◌≡◌, ℕ, zero, suc, ◌+◌, ◌<◌, ◌≤◌, Bool, false, List, [], ◌∷◌, ◌++◌, length, take, drop, set, ℤ, None, Option, sym, refl, ap, ◌∙◌, ap₂, le_of_suc-le-suc, not-suc-le-zero, arith, length-set, take-append-drop, length-take}
 use Rattle.solvers.specs.declared.decision.Decision.{Decision}
-use Rattle.solving.specs.Settings.{Setting, at, made, open_in}
-use Rattle.solving.specs.Literals.{place, wants}
+use Rattle.solving.specs.Settings.{Setting, open_in}
+use Rattle.solving.specs.Literals.{place}
 use Rattle.solvers.specs.Resuming.{Frame}
-use Rattle.solvers.specs.Trails.{unmade, unmade_all, frame_at, frames_of, Rising, Grown}
-use Rattle.solving.proofs.Places.{open_falls, open_inside}
-
-pub unset : (a : Setting) (j : ℕ) (x : Option Bool) → at a j ≡ None → set (set a j x) j None ≡ a
-unset a j x o = set-set a j x None ∙ ap (set a j) (sym o) ∙ set-get_or a j (Some false)
-
-pub unmade_append : (a : Setting) (s t : List ℤ) → unmade_all a (s ++ t) ≡ unmade_all (unmade_all a t) s
-unmade_append a [] t = refl
-unmade_append a (l ∷ s) t = ap (λ (b : Setting). unmade b l) (unmade_append a s t)
-
--- nothing more, and one more
-pub grown_none : (a : Setting) (s : List ℤ) → Grown a a s s
-grown_none a s = record { more = []; trail = sym (append-nil s); undone = refl; long = refl; room = refl }
-
-pub grown_more : (a b : Setting) (s t : List ℤ) (l : ℤ) → Grown a b s t → at b (place l) ≡ None → Grown a (made b l) s (t ++ (l ∷ []))
-grown_more a b s t l g o =
-    let e = length-set b (place l) (Some (wants l)) in
-    let f = open_falls b (length b) (place l) (wants l) o (open_inside b (place l) o) in
-    let h : open_in (length (made b l)) (made b l) ≡ open_in (length b) (made b l) = ap (λ k. open_in k (made b l)) e in
-    record {
-      more = g.more ++ (l ∷ []);
-      trail = ap (λ (x : List ℤ). x ++ (l ∷ [])) g.trail ∙ append_assoc s g.more (l ∷ []);
-      undone = unmade_append (made b l) g.more (l ∷ []) ∙ ap (λ (x : Setting). unmade_all x g.more) (unset b (place l) (Some (wants l)) o) ∙ g.undone;
-      long = e ∙ g.long;
-      room = simp length-append (omega (arith, g.room));
-    }
+use Rattle.propagation.specs.Trails.{unmade, unmade_all}
+use Rattle.solvers.specs.Trails.{frame_at, frames_of, Rising}
+use Rattle.propagation.proofs.Trailing.{unmade_append}
 
 drop_append : (n : ℕ) (s t : List ℤ) → n ≤ length s → drop n (s ++ t) ≡ drop n s ++ t
 drop_append zero s t h = refl

@@ -1,5 +1,3 @@
-pub mod Stacks
-pub mod Scanning
 pub mod Trails
 pub mod Resuming
 pub mod Looping

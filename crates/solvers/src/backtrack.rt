@@ -1,36 +1,45 @@
-// Backtracking's loop: close, then decide, turn or answer; the budget is tested before each step and nowhere else.
-ghost use Rattle.std.specs.Prelude.{◌≡◌, ◌≤◌, length};
+// Backtracking's loop: follow up what was made true, then decide, turn or answer; the budget is tested before each step and nowhere else.
+ghost use Rattle.std.specs.Prelude.{◌≡◌, ◌+◌, ◌≤◌, length};
 ghost use Rattle.solving.specs.Backtracking.{backtracking, lowest};
-ghost use Rattle.solvers.specs.Stacks.{room};
-ghost use Rattle.solvers.specs.Scanning.{clauses_from, Ends};
+ghost use Rattle.propagation.specs.Stacks.{room};
+ghost use Rattle.propagation.specs.Occurrences.{listed, clauses_of};
 ghost use Rattle.solvers.specs.Outcomes.{answered};
 
-use crate::close::close;
 use crate::decision::Decision;
-use crate::stack::Stack;
 use crate::turn::{decide, lowest_open, turn};
+use propagation::close::begin;
+use propagation::follow::follow;
+use propagation::{Clauses, Stack};
 use solving::{Solved, Verdict};
 
 pub fn backtrack(
-    literals: &[i16],
-    ends: &[usize],
+    clauses: Clauses,
     values: &mut [Option<bool>],
     trail: &mut Stack<i16>,
     decisions: &mut Stack<Decision>,
     budget: u64,
 ) -> Solved
-    requires ends { Ends literals.now 0 ends.now }
+    requires listed { listed clauses }
+    requires wide { length values.old + length values.old ≤ length clauses.lasts.now }
     requires few { length values.old ≤ 560 }
     requires fresh { trail.old.len ≡ 0 }
     requires blank { decisions.old.len ≡ 0 }
     requires space { length values.old ≤ room trail.old }
     requires more { length values.old ≤ room decisions.old }
-    ensures answers_as_defined { backtracking lowest (clauses_from literals.now 0 ends.now) budget values.old ≡ answered result values.new }
+    ensures answers_as_defined { backtracking lowest (clauses_of clauses.entry) budget values.old ≡ answered result values.new }
 {
+    if !begin(clauses, values, trail) {
+        return Solved {
+            verdict: Verdict::None,
+            steps: 0,
+        };
+    }
     let mut steps = 0;
+    // The literals on the trail from here on have yet to be followed up.
+    let mut front = 0;
     let verdict = loop {
         let spent = steps >= budget;
-        if close(literals, ends, values, trail) {
+        if follow(clauses, values, trail, front) {
             match lowest_open(values) {
                 None => break Verdict::Found,
                 Some(_) if spent => break Verdict::Undecided,
@@ -44,6 +53,7 @@ pub fn backtrack(
             }
         }
         steps += 1;
+        front = trail.len() - 1;
     };
     Solved { verdict, steps }
 }

@@ -2,6 +2,7 @@
 ghost use Rattle.std.specs.Prelude.{◌≡◌, ◌≤◌, length, IfOk, vec_len};
 ghost use Rattle.solving.specs.Models.{fresh};
 ghost use Rattle.solving.specs.Answers.{Answers};
+ghost use Rattle.ways.specs.Ways.{ByBacktracking};
 ghost use Rattle.solving.specs.Trials.{told, after};
 ghost use Rattle.solving.specs.Backtracking.{backtracked};
 ghost use Rattle.solvers.specs.Stores.{model_of};
@@ -9,24 +10,39 @@ ghost use Rattle.solvers.specs.Stores.{model_of};
 use crate::backtrack::backtrack;
 use crate::decision::Decision;
 use crate::outcome::is_found;
-use crate::stack::Stack;
 use crate::store::Store;
+use propagation::{Clauses, Index, Stack};
 use solving::{AppendFault, Solved, Solver, StartFault, ValueFault};
 use std::alloc::{AllocError, Global};
+use ways::Answering;
+
+mod clauses;
 
 // Both stacks over what is lent, from every variable open.
-fn run(store: &mut Store, places: &mut [i16], records: &mut [Decision], budget: u64) -> Solved
+fn run(
+    store: &mut Store,
+    index: &mut Index,
+    places: &mut [i16],
+    records: &mut [Decision],
+    budget: u64,
+) -> Solved
     requires room_for_literals { 560 ≤ length places.old }
     requires room_for_decisions { 560 ≤ length records.old }
     ensures answers_as_defined { result ≡ told (backtracked (model_of store.old) budget) }
     ensures leaves_as_defined { model_of store.new ≡ after (model_of store.old) (backtracked (model_of store.old) budget) }
 {
     store.reopen();
+    index.fill(&store.literals, &store.ends);
+    let clauses = Clauses {
+        literals: &store.literals,
+        ends: &store.ends,
+        lasts: &index.lasts,
+        places: &index.places,
+    };
     let mut trail = Stack::new(places);
     let mut decisions = Stack::new(records);
     let solved = backtrack(
-        &store.literals,
-        &store.ends,
+        clauses,
         &mut store.values,
         &mut trail,
         &mut decisions,
@@ -39,6 +55,7 @@ fn run(store: &mut Store, places: &mut [i16], records: &mut [Decision], budget: 
 #[derive(Drop)]
 pub struct Backtracking {
     store: Store,
+    index: Index,
     trail: Vec<i16>,
     decisions: Vec<Decision>,
     ghost room_for_literals: { 560 ≤ vec_len trail },
@@ -51,10 +68,12 @@ impl Backtracking {
         ensures begins_fresh { IfOk result (λ s. model_of s.store ≡ fresh) }
     {
         let store = Store::new(heap)?;
+        let index = Index::new(heap)?;
         let trail = vec![in heap; 0i16; 560]?;
         let decisions = vec![in heap; Decision { at: 0, var: 0 }; 560]?;
         Ok(Backtracking {
             store,
+            index,
             trail,
             decisions,
         })
@@ -79,6 +98,7 @@ impl Solver for Backtracking {
     {
         run(
             &mut self.store,
+            &mut self.index,
             &mut self.trail,
             &mut self.decisions,
             budget,
@@ -87,5 +107,13 @@ impl Solver for Backtracking {
 
     fn value(&self, variable: u16) -> Result<bool, ValueFault> {
         self.store.value(variable)
+    }
+}
+
+impl Answering for Backtracking {
+    ghost answering = { ByBacktracking };
+
+    fn answer(&mut self, budget: u64) -> Solved {
+        self.solve(budget)
     }
 }

@@ -1,34 +1,35 @@
 // Counting's loop: the settings of the leading variables by their numbers, each for a step, and what the closure of each says.
-ghost use Rattle.std.specs.Prelude.{◌≡◌, ℕ, ◌≤◌, length};
+ghost use Rattle.std.specs.Prelude.{◌≡◌, ℕ, ◌+◌, ◌≤◌, length};
 ghost use Rattle.solving.specs.Counting.{tried, counting};
-ghost use Rattle.solvers.specs.Scanning.{clauses_from, Ends};
+ghost use Rattle.propagation.specs.Occurrences.{listed, clauses_of};
 ghost use Rattle.solvers.specs.Numbering.{bits_of};
 ghost use Rattle.solvers.specs.Outcomes.{meant, answered};
 
-use crate::close::close;
 use crate::enter::{enter, power};
-use crate::stack::Stack;
 use crate::turn::lowest_open;
+use propagation::close::close;
+use propagation::{Clauses, Stack};
 use solving::{Solved, Verdict};
 
 // One setting: none where its closure is violated, found where it sets every variable, else undecided.
 fn try_setting(
-    literals: &[i16],
-    ends: &[usize],
+    clauses: Clauses,
     values: &mut [Option<bool>],
     places: &mut [i16],
     leading: usize,
     number: u64,
 ) -> Verdict
-    requires ends { Ends literals.now 0 ends.now }
+    requires listed { listed clauses }
+    requires small { length values.old ≤ 560 }
+    requires wide { length values.old + length values.old ≤ length clauses.lasts.now }
     requires inside { leading ≤ length values.old }
     requires few { leading ≤ 32 }
     requires space { length values.old ≤ length places.old }
-    ensures is_what_it_comes_to { (s : ℕ) → tried (clauses_from literals.now 0 ends.now) (length values.old) (bits_of leading number) s ≡ meant result s values.new }
+    ensures is_what_it_comes_to { (s : ℕ) → tried (clauses_of clauses.entry) (length values.old) (bits_of leading number) s ≡ meant result s values.new }
 {
     enter(values, leading, number);
     let mut trail = Stack::new(places);
-    if !close(literals, ends, values, &mut trail) {
+    if !close(clauses, values, &mut trail) {
         return Verdict::None;
     }
     match lowest_open(values) {
@@ -38,18 +39,19 @@ fn try_setting(
 }
 
 pub fn count(
-    literals: &[i16],
-    ends: &[usize],
+    clauses: Clauses,
     values: &mut [Option<bool>],
     places: &mut [i16],
     leading: usize,
     budget: u64,
 ) -> Solved
-    requires ends { Ends literals.now 0 ends.now }
+    requires listed { listed clauses }
+    requires small { length values.old ≤ 560 }
+    requires wide { length values.old + length values.old ≤ length clauses.lasts.now }
     requires inside { leading ≤ length values.old }
     requires few { leading ≤ 32 }
     requires space { length values.old ≤ length places.old }
-    ensures answers_as_defined { counting (clauses_from literals.now 0 ends.now) (length values.old) leading budget ≡ answered result values.new }
+    ensures answers_as_defined { counting (clauses_of clauses.entry) (length values.old) leading budget ≡ answered result values.new }
 {
     let all = power(leading);
     let mut steps = 0;
@@ -60,7 +62,7 @@ pub fn count(
         if steps >= budget {
             break Verdict::Undecided;
         }
-        let verdict = try_setting(literals, ends, values, places, leading, steps);
+        let verdict = try_setting(clauses, values, places, leading, steps);
         steps += 1;
         match verdict {
             Verdict::None => {}

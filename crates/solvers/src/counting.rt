@@ -2,6 +2,7 @@
 ghost use Rattle.std.specs.Prelude.{◌≡◌, ◌≤◌, length, IfOk, vec_len};
 ghost use Rattle.solving.specs.Models.{fresh};
 ghost use Rattle.solving.specs.Answers.{Answers};
+ghost use Rattle.ways.specs.Ways.{ByCounting};
 ghost use Rattle.solving.specs.Trials.{told, after};
 ghost use Rattle.solving.specs.Counting.{counted};
 ghost use Rattle.solvers.specs.Stores.{model_of};
@@ -9,25 +10,27 @@ ghost use Rattle.solvers.specs.Stores.{model_of};
 use crate::count::count;
 use crate::outcome::is_found;
 use crate::store::Store;
+use propagation::{Clauses, Index};
 use solving::{AppendFault, Solved, Solver, StartFault, ValueFault};
 use std::alloc::{AllocError, Global};
+use ways::Answering;
 
 // The trail over what is lent, from every variable open.
-fn run(store: &mut Store, places: &mut [i16], budget: u64) -> Solved
+fn run(store: &mut Store, index: &mut Index, places: &mut [i16], budget: u64) -> Solved
     requires room_for_literals { 560 ≤ length places.old }
     ensures answers_as_defined { result ≡ told (counted (model_of store.old) budget) }
     ensures leaves_as_defined { model_of store.new ≡ after (model_of store.old) (counted (model_of store.old) budget) }
 {
     store.reopen();
+    index.fill(&store.literals, &store.ends);
+    let clauses = Clauses {
+        literals: &store.literals,
+        ends: &store.ends,
+        lasts: &index.lasts,
+        places: &index.places,
+    };
     let leading = store.leading;
-    let solved = count(
-        &store.literals,
-        &store.ends,
-        &mut store.values,
-        places,
-        leading,
-        budget,
-    );
+    let solved = count(clauses, &mut store.values, places, leading, budget);
     store.read = is_found(solved.verdict);
     solved
 }
@@ -35,6 +38,7 @@ fn run(store: &mut Store, places: &mut [i16], budget: u64) -> Solved
 #[derive(Drop)]
 pub struct Counting {
     store: Store,
+    index: Index,
     trail: Vec<i16>,
     ghost room_for_literals: { 560 ≤ vec_len trail },
 }
@@ -45,8 +49,13 @@ impl Counting {
         ensures begins_fresh { IfOk result (λ s. model_of s.store ≡ fresh) }
     {
         let store = Store::new(heap)?;
+        let index = Index::new(heap)?;
         let trail = vec![in heap; 0i16; 560]?;
-        Ok(Counting { store, trail })
+        Ok(Counting {
+            store,
+            index,
+            trail,
+        })
     }
 }
 
@@ -66,10 +75,18 @@ impl Solver for Counting {
         ensures answers_as_defined { result ≡ told (counted (model_of self.old.store) budget) }
         ensures leaves_as_defined { model_of self.new.store ≡ after (model_of self.old.store) (counted (model_of self.old.store) budget) }
     {
-        run(&mut self.store, &mut self.trail, budget)
+        run(&mut self.store, &mut self.index, &mut self.trail, budget)
     }
 
     fn value(&self, variable: u16) -> Result<bool, ValueFault> {
         self.store.value(variable)
+    }
+}
+
+impl Answering for Counting {
+    ghost answering = { ByCounting };
+
+    fn answer(&mut self, budget: u64) -> Solved {
+        self.solve(budget)
     }
 }

@@ -4,8 +4,8 @@ ghost use Rattle.solving.specs.Models.{fresh, begun, reads, startable};
 ghost use Rattle.solving.specs.Refusals.{started, valued};
 ghost use Rattle.solvers.specs.Stores.{model_of};
 
-use crate::literal::bit_of;
 use crate::store::Store;
+use propagation::literal::bit_of;
 use solving::{StartFault, ValueFault};
 use std::alloc::{AllocError, Global};
 

@@ -2,7 +2,7 @@
 // All the memory that a lawful formula can need is reserved from the start.
 ghost use Rattle.std.specs.Prelude.{◌≡◌, ◌+◌, ◌≤◌, true, vec_len, vec_capacity};
 ghost use Rattle.solving.specs.Models.{startable};
-ghost use Rattle.solvers.specs.Scanning.{ends_well};
+ghost use Rattle.propagation.specs.Scanning.{ends_well};
 
 #[derive(Drop)]
 pub struct Store {

@@ -3,13 +3,13 @@
 ghost use Rattle.std.specs.Prelude.{◌≡◌, ◌+◌, ◌-◌, ◌<◌, ◌≤◌, [], ◌∷◌, ◌++◌, length, take, drop, ℤ, pos, negsuc};
 ghost use Rattle.solving.specs.Settings.{made};
 ghost use Rattle.solving.specs.Backtracking.{lowest_open};
-ghost use Rattle.solvers.specs.Stacks.{held, room};
-ghost use Rattle.solvers.specs.Trails.{unmade, unmade_all};
+ghost use Rattle.propagation.specs.Stacks.{held, room};
+ghost use Rattle.propagation.specs.Trails.{unmade, unmade_all};
 
-use crate::close::make;
 use crate::decision::Decision;
-use crate::literal::place_of;
-use crate::stack::Stack;
+use propagation::Stack;
+use propagation::literal::place_of;
+use propagation::trail::make;
 
 // The place of the lowest open variable, if one is open.
 pub fn lowest_open(values: &[Option<bool>]) -> Option<usize>

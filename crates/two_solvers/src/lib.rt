@@ -9,7 +9,7 @@ ghost use Rattle.two_solvers.specs.Joining.{Joined};
 use job::{Job, Ticket};
 use requests::{Reply, Request, run};
 use std::alloc::{AllocError, Global};
-use swift_solvers::{Backtracking, Counting};
+use solvers::{Backtracking, Counting};
 use ways::Answering;
 
 // What the requests of each run got.

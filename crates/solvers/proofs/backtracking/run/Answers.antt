@@ -1,35 +1,28 @@
-use Rattle.std.proofs.Common.{◌≡◌, ℕ, ◌≤◌, cond, List, length, ℤ, Some, None, vec_items, vec_len, sym, ap, ◌∙◌, ap₂, arith}
+use Rattle.std.proofs.Common.{◌≡◌, ℕ, cond, List, ℤ, Some, None, vec_items, vec_len, sym, ap, ◌∙◌, ap₂, arith}
 use Rattle.std.proofs.lemmas.List.{with_items_is}
 use Rattle.solving.specs.Settings.{Setting, reading_of}
 use Rattle.solving.specs.Models.{Model, reads}
 use Rattle.solving.specs.Backtracking.{backtracking, lowest, backtracked}
-use Rattle.solvers.specs.Scanning.{clauses_from}
+use Rattle.propagation.specs.Scanning.{clauses_from}
 use Rattle.solvers.specs.Stores.{model_of}
 use Rattle.solvers.specs.Outcomes.{answered}
-use Rattle.solvers.proofs.Stored.{ends_of, ends_as, start_small}
+use Rattle.solvers.proofs.Stored.{ends_of, ends_as}
 use Rattle.solvers.proofs.Verdicts.{told_answered, concluded}
 use Rattle.solvers.proofs.backtracking.run.Goals as goal
 
-pub backtrack-solved-requires : goal.backtrack-solved-requires
-backtrack-solved-requires c =
-    let s = c.args.store.now in
+pub fill-requires : goal.fill-requires
+fill-requires c =
     let n = c.reopen.new.self in
-    let h : s.variables ≤ 560 = start_small s.variables s.leading s.sized in
-    let l : length c.deref_mut.result.now ≡ s.variables = c.deref_mut.ensures.len ∙ c.reopen.ensures.len in
     record {
-      ends = ends_as c.deref.result.now (vec_items n.literals) c.deref-2.result.now (vec_items n.ends) c.deref.ensures.value c.deref-2.ensures.value (ends_of (vec_items n.literals) (vec_len n.literals) 0 (vec_items n.ends) n.literals.ok.0 n.ended);
-      few = omega (arith, h, l);
-      fresh = c.new-trail.ensures.has_no_entry;
-      blank = c.new-decisions.ensures.has_no_entry;
-      space = omega (arith, h, l, c.new-trail.ensures.has_the_room_lent, c.requires.room_for_literals);
-      more = omega (arith, h, l, c.new-decisions.ensures.has_the_room_lent, c.requires.room_for_decisions);
+      ended = ends_as c.deref.result.now (vec_items n.literals) c.deref-2.result.now (vec_items n.ends) c.deref.ensures.value c.deref-2.ensures.value (ends_of (vec_items n.literals) (vec_len n.literals) 0 (vec_items n.ends) n.literals.ok.0 n.ended);
+      few = omega (arith, c.deref.ensures.len, n.few);
     }
 
 pub returns : goal.returns
 returns c =
     let s = c.args.store.now in
     let e = c.reopen.ensures.state in
-    let cs = ap₂ (λ (xs : List ℤ) (es : List ℕ). clauses_from xs 0 es) c.deref.ensures.value c.deref-2.ensures.value ∙ ap (λ (x : Model). x.clauses) e in
+    let cs = ap₂ (λ (xs : List ℤ) (es : List ℕ). clauses_from xs 0 es) c.deref-3.ensures.value c.deref-4.ensures.value ∙ ap (λ (x : Model). x.clauses) e in
     let a = c.deref_mut.ensures.value ∙ c.reopen.ensures.opened in
     let q : backtracked (model_of s) c.args.budget ≡ answered c.backtrack-solved.result c.backtrack-solved.new.values = sym (ap₂ (λ (ys : List (List ℤ)) (b : Setting). backtracking lowest ys c.args.budget b) cs a) ∙ c.backtrack-solved.ensures.answers_as_defined in
     record {

@@ -1,5 +1,5 @@
 use Rattle.std.proofs.Common.{◌≤◌, List, ◌++◌, length, take, drop, ℤ, sym, ap, ◌∙◌, append-nil, arith, take-append-drop, drop_of_length-le, length-take}
-use Rattle.solvers.specs.Trails.{unmade_all}
+use Rattle.propagation.specs.Trails.{unmade_all}
 use Rattle.solvers.proofs.Trailing.{unwind_values, unwind_trail}
 use Rattle.solvers.proofs.turn.unwind.Goals as goal
 

@@ -1,6 +1,6 @@
 use Rattle.std.proofs.Common.{◌≡◌, ◌≤◌, take, drop}
-use Rattle.solvers.specs.Stacks.{held, room}
-use Rattle.solvers.specs.Trails.{unmade_all}
+use Rattle.propagation.specs.Stacks.{held, room}
+use Rattle.propagation.specs.Trails.{unmade_all}
 use Rattle.solvers.proofs.turn.unwind.Given as goal
 
 abbrev pub invariant-loop-values : goal.invariant-loop-values

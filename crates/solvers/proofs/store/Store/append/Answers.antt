@@ -4,7 +4,7 @@ use borrow.Author.Tests.{lt-leb}
 use Rattle.solving.specs.Literals.{all_in_range}
 use Rattle.solving.specs.Models.{longer, room_for, appendable}
 use Rattle.solving.specs.declared.fault.AppendFault.TheVariants.{Literal, Places}
-use Rattle.solvers.specs.Scanning.{clauses_from, ends_well}
+use Rattle.propagation.specs.Scanning.{clauses_from, ends_well}
 use Rattle.solvers.specs.Stores.{model_of}
 use Rattle.solvers.proofs.Stored.{places_used, ends_of, ends_more, clauses_more, if_true, if_false}
 use Rattle.solvers.proofs.store.Store.append.Goals as goal

@@ -1,7 +1,0 @@
-pub mod Resumed
-pub mod Trailing
-pub mod Looped
-pub mod Stored
-pub mod Verdicts
-pub mod Numbered
-pub mod Counted
