@@ -23,23 +23,6 @@ use Rattle.formula.proofs.Standing.{formula_stands}
 use Rattle.asking.specs.Findings.{Asks, Finding, Tells, finding, fixing, shown, thinned_setting, unknown, untestable}
 use Rattle.asking.proofs.Weighed.{fixing_all, fixing_filled, fixing_in_form}
 
--- ---- findings are told apart
-
-shown_same : (v w : Cells) → shown v ≡ shown w → v ≡ w
-shown_same v w e = cc
-
-shown_untestable : (v : Cells) → shown v ≡ untestable → ⊥
-shown_untestable v e = let z : ◌≡◌ {A = ℕ} 0 1 = cc in omega arith
-
-shown_unknown : (v : Cells) → shown v ≡ unknown → ⊥
-shown_unknown v e = let z : ◌≡◌ {A = ℕ} 0 1 = cc in omega arith
-
-untestable_shown : (v : Cells) → untestable ≡ shown v → ⊥
-untestable_shown v e = let z : ◌≡◌ {A = ℕ} 0 1 = cc in omega arith
-
-untestable_unknown : untestable ≡ unknown → ⊥
-untestable_unknown e = let z : ◌≡◌ {A = ℕ} 0 1 = cc in omega arith
-
 -- ---- a vector in form stays so while cells are freed
 
 freed_in_form : (k : ℕ) (v : Cells) (j : ℕ) → InForm k v → InForm k (freed v j)
@@ -79,27 +62,27 @@ module _ (c : Netlist) (s : Stuck) (lawful : Lawful c) where
       let told : ShownByEveryFilling c s (thinned_setting c s r) = catch_shown c s (thinned_setting c s r) (thinned_catches c s (fixing bits) k caught) in
       let form : InForm k (thinned_setting c s r) = thinned_in_form c s k (fixing bits) k (subst (λ (n : ℕ). InForm n (fixing bits)) is (fixing_in_form bits)) in
       record {
-        every_filling_of_a_shown_vector_shows_the_fault = λ v e. subst (ShownByEveryFilling c s) (shown_same (thinned_setting c s r) v e) told;
-        a_shown_vector_is_in_form = λ v e. subst (InForm k) (shown_same (thinned_setting c s r) v e) form;
-        untestable_means_no_setting_shows = λ e. absurd (shown_untestable (thinned_setting c s r) e);
-        enough_steps_settle = λ h e. shown_unknown (thinned_setting c s r) e;
+        every_filling_of_a_shown_vector_shows_the_fault = λ v e. let is : thinned_setting c s r ≡ v = cc in subst (ShownByEveryFilling c s) is told;
+        a_shown_vector_is_in_form = λ v e. let is : thinned_setting c s r ≡ v = cc in subst (InForm k) is form;
+        untestable_means_no_setting_shows = λ e. absurd (cc);
+        enough_steps_settle = λ h e. cc;
       }
 
   none_tells : (budget : ℕ) → Says (holds_formula c s) budget Unsatisfiable None → Tells c s budget untestable
   none_tells budget never = record {
-    every_filling_of_a_shown_vector_shows_the_fault = λ v e. absurd (untestable_shown v e);
-    a_shown_vector_is_in_form = λ v e. absurd (untestable_shown v e);
+    every_filling_of_a_shown_vector_shows_the_fault = λ v e. absurd (cc);
+    a_shown_vector_is_in_form = λ v e. absurd (cc);
     untestable_means_no_setting_shows = λ e bits shows.
         let (r, extends) = laws.means.a_showing_setting_extends bits shows in
         never r extends.one_for_each_variable extends.satisfies_the_formula;
-    enough_steps_settle = λ h e. untestable_unknown e;
+    enough_steps_settle = λ h e. cc;
   }
 
   unknown_tells : (budget : ℕ) → Says (holds_formula c s) budget Undecided None → Tells c s budget unknown
   unknown_tells budget settles = record {
-    every_filling_of_a_shown_vector_shows_the_fault = λ v e. absurd (shown_unknown v (sym e));
-    a_shown_vector_is_in_form = λ v e. absurd (shown_unknown v (sym e));
-    untestable_means_no_setting_shows = λ e. absurd (untestable_unknown (sym e));
+    every_filling_of_a_shown_vector_shows_the_fault = λ v e. absurd (cc);
+    a_shown_vector_is_in_form = λ v e. absurd (cc);
+    untestable_means_no_setting_shows = λ e. absurd (cc);
     enough_steps_settle = λ h e. settles laws.led h;
   }
 

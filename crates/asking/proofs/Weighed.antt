@@ -1,8 +1,9 @@
 -- The bits of a weighed list, and the vector that fixes every input of a setting.
 use Rattle.std.proofs.Common.{◌≡◌, ℕ, zero, suc, ◌+◌, ◌*◌, ◌/◌, ◌%◌, ◌^◌, ◌<◌, ◌≤◌, Bool, true, false, cond, eqb, List, [], ◌∷◌, map, length, get_or, drop, replicate, sym, refl, ap, ◌∙◌, subst, ⊎_elim, arith}
 use lib.ListN.{length-replicate}
-use Rattle.std.proofs.lemmas.List.{drop_more, get_or-map, get_or_past}
+use Rattle.std.proofs.lemmas.List.{drop_more, get_or-map, get_or-replicate, get_or_past}
 use Rattle.std.proofs.lemmas.Bool.{both_ways, cases_lt}
+use Rattle.std.proofs.lemmas.Simd.{splat_is_map}
 use Rattle.vectors.specs.Vectors.{Fills, InForm, bit_at, holding}
 use Rattle.vectors.proofs.Bits.{below_from_bits, bit_lowest, bit_of_zero, bit_past, bit_suc}
 use Rattle.faults.specs.Catching.{AllFixed}
@@ -27,15 +28,6 @@ weighed_below bits = below_from_bits (weighed bits) (length bits) (λ j h. bit_w
 
 -- ---- all ones
 
-ones : {X : Type 0} (xs : List X) → map (λ _. true) xs ≡ replicate (length xs) true
-ones [] = refl
-ones (x ∷ xs) = ap (λ (ys : List Bool). true ∷ ys) (ones xs)
-
-get_d_ones : (n j : ℕ) → j < n → get_or (replicate n true) j false ≡ true
-get_d_ones zero j h = absurd (omega arith)
-get_d_ones (suc n) zero h = refl
-get_d_ones (suc n) (suc j) h = get_d_ones n j (omega arith)
-
 -- one more
 pub all_more : (n m : ℕ) → n ≡ m + 1 → weighed (replicate n true) ≡ 2 * weighed (replicate m true) + 1
 all_more n m e =
@@ -51,7 +43,7 @@ in_form_below n value h = record {
   within = λ j le. bit_past (weighed (replicate n true)) n j (all_below_lem n) le;
   free_is_zero = λ j free.
       ⊎_elim
-      (λ (lt : j < n). absurd (both_ways (bit_at (weighed (replicate n true)) j) free (bit_weighed (replicate n true) j ∙ get_d_ones n j lt)))
+      (λ (lt : j < n). absurd (both_ways (bit_at (weighed (replicate n true)) j) free (bit_weighed (replicate n true) j ∙ get_or-replicate n j true false lt)))
       (λ (le : n ≤ j). bit_past value n j h le)
       (cases_lt j n);
 }
@@ -66,10 +58,10 @@ module _ (bits : List Bool) where
   fixing_filled = record { one_for_each = refl; agrees = λ j h t. sym (bit_weighed bits j) }
 
   pub fixing_in_form : InForm (length bits) (fixing bits)
-  fixing_in_form = subst (λ (ys : List Bool). InForm (length bits) (holding (weighed ys) (weighed bits))) (sym (ones bits)) (in_form_below (length bits) (weighed bits) (weighed_below bits))
+  fixing_in_form = subst (λ (ys : List Bool). InForm (length bits) (holding (weighed ys) (weighed bits))) (splat_is_map bits (length bits) true refl) (in_form_below (length bits) (weighed bits) (weighed_below bits))
 
   pub fixing_is : (care value : ℕ) → care ≡ weighed (replicate (length bits) true) → value ≡ weighed bits → holding care value ≡ fixing bits
-  fixing_is care value e f = λ i. holding ((e ∙ ap weighed (sym (ones bits))) i) (f i)
+  fixing_is care value e f = λ i. holding ((e ∙ ap weighed (splat_is_map bits (length bits) true refl)) i) (f i)
 
 -- one more bit in front
 pub weighed_more : (bits : List Bool) (i : ℕ) → i < length bits → weighed (drop i bits) ≡ cond (get_or bits i false) 1 0 + 2 * weighed (drop (i + 1) bits)

@@ -1,4 +1,5 @@
 // One question to a solver: whether some setting shows a line stuck at its level.
+// The solver is given the fault's formula, and its answer is read back in words of the fault.
 ghost use Rattle.card.specs.Views.{netlist_of};
 ghost use Rattle.formula.specs.Posing.{holds_formula};
 ghost use Rattle.asking.specs.Findings.{Asks, finding_of, Tells};

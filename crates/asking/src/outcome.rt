@@ -1,4 +1,5 @@
 // What a solver's answer says of the fault that it was asked about.
+// A reading is told as a vector, thinned to the cells that the fault needs.
 use vectors::vector::Vector;
 
 #[derive(Clone, Copy)]

@@ -1,4 +1,5 @@
 // The setting that a solver's reading begins with, as a vector with every input fixed.
+// The bits of the leading variables are those of the inputs, in order.
 ghost use Rattle.std.specs.Prelude.{◌≡◌, ◌-◌, ◌≤◌, Bool, false, List, length, take, Some, slice_index_or};
 ghost use Rattle.vectors.specs.Views.{cells_of};
 ghost use Rattle.asking.specs.Findings.{fixing};
@@ -10,10 +11,7 @@ use vectors::vector::Vector;
 fn bit<S: Solver>(solver: &S, variable: u16) -> bool
     ensures is_the_readings_bit { (reading : List Bool) → (S.Solver.model solver.now).reading ≡ Some reading → 1 ≤ variable → variable ≤ (S.Solver.model solver.now).variables → result ≡ slice_index_or reading (variable - 1) false }
 {
-    match solver.value(variable) {
-        Ok(bit) => bit,
-        Err(_) => false,
-    }
+    solver.value(variable).unwrap_or(false)
 }
 
 // The first variables of the solver's reading as a vector, one fixed input for each.
@@ -27,8 +25,8 @@ pub(crate) fn setting<S: Solver>(solver: &S, inputs: usize) -> Vector
         care = 2 * care + 1;
         value = 2 * value + u32::from(bit(solver, (j + 1) as u16));
     }
-    match Vector::new(inputs, care, value) {
-        Ok(vector) => vector,
-        Err(_) => unreachable(),
-    }
+    let Ok(vector) = Vector::new(inputs, care, value) else {
+        unreachable!()
+    };
+    vector
 }

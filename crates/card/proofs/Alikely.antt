@@ -1,7 +1,7 @@
 -- The tests of alikeness decide it, and it is an equivalence.
-use Rattle.std.proofs.Common.{◌≡◌, ℕ, zero, suc, ◌+◌, ◌<◌, ◌≤◌, Bool, true, false, ◌&&◌, eqb, List, [], ◌∷◌, length, get_or, drop, Decides, sym, refl, ap, ◌∙◌, ⊎_elim, le_of_suc-le-suc, not-suc-le-zero, arith}
-use Rattle.std.proofs.lemmas.List.{drop_more, drop_all}
-use Rattle.std.proofs.lemmas.Bool.{and_from, and_left, and_parts, and_right, eq-eqb, eqb-true, false≢true, or_cases, or_left, or_right}
+use Rattle.std.proofs.Common.{◌≡◌, ℕ, zero, suc, ◌<◌, Bool, true, false, ◌&&◌, eqb, List, [], ◌∷◌, length, get_or, Decides, sym, refl, ap, ◌∙◌, ⊎_elim, le_of_suc-le-suc, not-suc-le-zero, arith}
+use Rattle.std.specs.List.{list_all, zip}
+use Rattle.std.proofs.lemmas.Bool.{and_from, and_parts, and_right, eq-eqb, eqb-true, false≢true, or_cases, or_left, or_right}
 use Rattle.card.specs.declared.function.Function.{Function}
 use Rattle.card.specs.declared.function.Function.TheVariants.{Ida, And2, Or2, Xor2, Inva, Nand2, Nor2, Xnor2, Zero, One as High}
 use Rattle.card.specs.declared.gate.Gate.{Gate}
@@ -12,25 +12,19 @@ use Rattle.card.specs.Functions.{function_number, function_of}
 use Rattle.card.specs.Netlists.{Netlist, nets_read}
 use Rattle.card.proofs.Oftens.{never_none_one, never_none_two, never_one_two, often_one, often_two, swapped_often}
 
--- the loop over two lists of gates
+-- lists of different lengths are not the same
 pub unlike_lengths : (gs hs : List Gate) → (length gs ≡ length hs → ⊥) → false ≡ same_gates gs hs
 unlike_lengths [] [] n = absurd (n refl)
 unlike_lengths [] (h ∷ hs) n = refl
 unlike_lengths (g ∷ gs) [] n = refl
 unlike_lengths (g ∷ gs) (h ∷ hs) n = sym (and_right (same_gate g h) (same_gates gs hs) (sym (unlike_lengths gs hs (λ e. n (ap suc e)))))
 
-module _ (gs hs : List Gate) (i : ℕ) (d e : Gate) (l : i < length gs) (m : i < length hs) where
-  one_gate : same_gates (drop i gs) (drop i hs) ≡ (same_gate (get_or gs i d) (get_or hs i e) && same_gates (drop (i + 1) gs) (drop (i + 1) hs))
-  one_gate = ap (λ x. same_gates x (drop i hs)) (drop_more gs i d l) ∙ ap (same_gates (get_or gs i d ∷ drop (i + 1) gs)) (drop_more hs i e m)
-
-  pub gates_differ : false ≡ same_gate (get_or gs i d) (get_or hs i e) → same_gates gs hs ≡ same_gates (drop i gs) (drop i hs) → false ≡ same_gates gs hs
-  gates_differ f w = sym (w ∙ one_gate ∙ and_left (same_gate (get_or gs i d) (get_or hs i e)) _ (sym f))
-
-  pub gates_go_on : true ≡ same_gate (get_or gs i d) (get_or hs i e) → same_gates gs hs ≡ same_gates (drop i gs) (drop i hs) → same_gates gs hs ≡ same_gates (drop (i + 1) gs) (drop (i + 1) hs)
-  gates_go_on t w = w ∙ one_gate ∙ ap (λ b. b && same_gates (drop (i + 1) gs) (drop (i + 1) hs)) (sym t)
-
-pub gates_end : (gs hs : List Gate) (i : ℕ) → length gs ≤ i → length hs ≤ i → same_gates gs hs ≡ same_gates (drop i gs) (drop i hs) → true ≡ same_gates gs hs
-gates_end gs hs i l m w = sym (w ∙ ap (λ x. same_gates x (drop i hs)) (drop_all i gs l) ∙ ap (same_gates []) (drop_all i hs m))
+-- two lists of one length, gate by gate
+pub gates_in_pairs : (gs hs : List Gate) → length gs ≡ length hs → list_all (λ p. same_gate p.0 p.1) (zip gs hs) ≡ same_gates gs hs
+gates_in_pairs [] [] e = refl
+gates_in_pairs [] (h ∷ hs) e = absurd (omega arith)
+gates_in_pairs (g ∷ gs) [] e = absurd (omega arith)
+gates_in_pairs (g ∷ gs) (h ∷ hs) e = ap (λ b. same_gate g h && b) (gates_in_pairs gs hs (omega arith))
 
 -- the number of a function tells it
 numbered : (f : Function) → function_of (function_number f) ≡ f

@@ -1,4 +1,5 @@
 pub mod Functions
+pub mod Numbers
 pub mod Netlists
 pub mod Parts
 pub mod Views

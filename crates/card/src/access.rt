@@ -1,4 +1,4 @@
-// What a card shows of itself: counts and lists, each with the rules that every card keeps.
+// What a card shows of itself: counts and lists. That it keeps the rules follows from its type, and is said with the first.
 ghost use Rattle.std.specs.Prelude.{◌≡◌, length};
 ghost use Rattle.card.specs.Netlists.{Lawful, nets};
 ghost use Rattle.card.specs.Views.{netlist_of};
@@ -18,7 +18,6 @@ impl Card {
     // The gates in order; gate i makes net inputs + i.
     pub fn gates(&self) -> &[Gate]
         ensures are_the_gates { result.now ≡ (netlist_of self.now).gates }
-        ensures every_card_keeps_the_rules { Lawful (netlist_of self.now) }
     {
         &self.gates
     }
@@ -26,7 +25,6 @@ impl Card {
     // The nets that are outputs, in order.
     pub fn outputs(&self) -> &[u16]
         ensures are_the_outputs { result.now ≡ (netlist_of self.now).outputs }
-        ensures every_card_keeps_the_rules { Lawful (netlist_of self.now) }
     {
         &self.outputs
     }
@@ -34,7 +32,6 @@ impl Card {
     // How many nets the card has.
     pub fn nets(&self) -> usize
         ensures counts_the_nets { result ≡ nets (netlist_of self.now) }
-        ensures every_card_keeps_the_rules { Lawful (netlist_of self.now) }
     {
         self.inputs as usize + self.gates.len()
     }

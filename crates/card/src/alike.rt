@@ -20,27 +20,13 @@ fn same_operands(a: Operands, b: Operands) -> bool
 fn same_gate(a: Gate, b: Gate) -> bool
     ensures says_whether_the_gates_are_the_same { result ≡ same_gate a b }
 {
-    a.function.number() == b.function.number() && same_operands(a.operands, b.operands)
+    a.function == b.function && same_operands(a.operands, b.operands)
 }
 
 fn same_gates(a: &[Gate], b: &[Gate]) -> bool
     ensures says_whether_each_gate_is_the_same { result ≡ same_gates a.now b.now }
 {
-    if a.len() != b.len() {
-        return false;
-    }
-    for i in 0..a.len() {
-        if !same_gate(a[i], b[i]) {
-            return false;
-        }
-    }
-    true
-}
-
-fn same_outputs(a: &[u16], b: &[u16]) -> bool
-    ensures says_whether_the_outputs_are_the_same { Decides result (a.now ≡ b.now) }
-{
-    a == b
+    a.len() == b.len() && a.iter().zip(b).all(|(x, y)| same_gate(*x, *y))
 }
 
 // It refuses nothing.
@@ -50,6 +36,6 @@ pub fn alike(a: &Card, b: &Card) -> bool
 {
     let inputs = a.inputs() == b.inputs();
     let gates = same_gates(a.gates(), b.gates());
-    let outputs = same_outputs(a.outputs(), b.outputs());
+    let outputs = a.outputs() == b.outputs();
     inputs & gates & outputs
 }

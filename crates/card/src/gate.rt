@@ -3,14 +3,15 @@
 use crate::function::Function;
 
 // The nets that the pins of a gate read, from pin 0.
-#[derive(Clone, Copy)]
+#[derive(Clone, Copy, PartialEq, Eq, Default)]
 pub enum Operands {
+    #[default]
     None,
     One(u16),
     Two(u16, u16),
 }
 
-#[derive(Clone, Copy)]
+#[derive(Clone, Copy, PartialEq, Eq, Default)]
 pub struct Gate {
     pub function: Function,
     pub operands: Operands,

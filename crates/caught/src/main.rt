@@ -2,29 +2,27 @@
 // All that decides anything is in the libraries; this file reads, asks fault by fault and prints.
 #![tactic(auto)]
 
-use anyhow::anyhow;
 use card::netlist::Card;
+use console::card_named;
 use faults::catching::catches;
 use faults::model::FaultModel;
-use reading::fault::CardFault;
-use reading::read::from_bytes;
 use std::alloc::{AllocError, Global};
 use std::io::{BufRead, BufReader};
-use std::{env, fs};
 use vectors::row::row;
 use vectors::vector::Vector;
 
+// Whether the vector catches the fault of this number.
+fn is_caught(model: &FaultModel, fault: usize, vector: &Vector) -> bool {
+    model
+        .line(fault)
+        .is_ok_and(|stuck| catches(model.card(), stuck, vector))
+}
+
 // The numbers of the faults that the vector catches, rising.
 fn caught_by(heap: Global, model: &FaultModel, vector: &Vector) -> Result<Vec<usize>, AllocError> {
-    let mut numbers = Vec::new(heap);
-    for fault in 0..model.fault_count() {
-        if let Ok(stuck) = model.line(fault) {
-            if catches(model.card(), stuck, vector) {
-                numbers.push(fault)?;
-            }
-        }
-    }
-    Ok(numbers)
+    (0..model.fault_count())
+        .filter(|fault| is_caught(model, *fault, vector))
+        .collect(heap)
 }
 
 // Prints the faults that one line of cells catches, or says that it is none.
@@ -38,7 +36,7 @@ fn answer(rt: &HostRuntime, model: &FaultModel, line: &str) -> anyhow::Result<()
     let count = numbers.len();
     let all = model.fault_count();
     print!(rt; "caught {count} of {all}:")?;
-    for number in numbers.iter() {
+    for number in &numbers {
         print!(rt; " {number}")?;
     }
     println!(rt)?;
@@ -56,20 +54,11 @@ fn serve(rt: &HostRuntime, card: Card) -> anyhow::Result<()> {
 }
 
 fn run(rt: &HostRuntime) -> anyhow::Result<()> {
-    let Some(path) = env::args(rt)?.nth(1) else {
-        return Err(anyhow!("usage: caught CARD-FILE < ROWS"));
-    };
-    let bytes = fs::read(rt, path.as_str())?;
-    match from_bytes(rt.alloc(), bytes.as_slice()) {
-        Ok(card) => serve(rt, card),
-        Err(CardFault::Memory) => Err(anyhow!("no memory to hold the card")),
-        Err(fault) => {
-            let number = fault.number();
-            let offset = fault.offset();
-            println!(rt; "card refused {number} at {offset}")?;
-            Ok(())
-        }
+    match card_named(rt, "usage: caught CARD-FILE < ROWS")? {
+        Ok(card) => serve(rt, card)?,
+        Err(fault) => println!(rt; "{fault}")?,
     }
+    Ok(())
 }
 
 fn main(rt: HostRuntime) -> anyhow::Result<()> {

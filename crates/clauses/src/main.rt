@@ -2,49 +2,39 @@
 // so that any other solver can be set on it. The encoder gives the formula to a solver, and what that solver holds is printed.
 #![tactic(auto)]
 
-use anyhow::anyhow;
 use card::netlist::Card;
+use console::{card_named, number};
 use faults::model::FaultModel;
 use formula::pose::pose;
 use formula::variable_count;
-use reading::fault::CardFault;
-use reading::read::from_bytes;
+use solvers::Backtracking;
 use std::alloc::{AllocError, Global};
 use std::fmt::Write;
 use std::io::{BufRead, BufReader};
-use std::{env, fs};
-use solvers::Backtracking;
 
 // A clause takes at least one of a solver's places, so there are no more clauses than these.
 const PLACES: usize = 9216;
 
-// The number that a line has, in digits alone.
-fn fault_number(line: &str) -> Option<usize> {
-    if line.starts_with('+') {
-        return None;
-    }
-    line.parse::<usize>().ok()
-}
-
 // The clauses that the solver holds, in order.
 fn held(heap: Global, solver: &Backtracking) -> Result<Vec<&[i16]>, AllocError> {
-    let mut clauses = Vec::new(heap);
-    for number in 0..PLACES {
-        let Some(clause) = solver.clause(number) else {
-            break;
-        };
-        clauses.push(clause)?;
-    }
-    Ok(clauses)
+    (0..PLACES)
+        .map_while(|number| solver.clause(number))
+        .collect(heap)
 }
 
 // The places that the clauses use: one for each literal, and one for each clause.
 fn places(clauses: &[&[i16]]) -> usize {
-    let mut sum = clauses.len();
-    for clause in clauses {
-        sum = sum.saturating_add(clause.len());
+    clauses.iter().fold(clauses.len(), |sum, clause| {
+        sum.saturating_add(clause.len())
+    })
+}
+
+// Puts a clause behind the text, as a line.
+fn put_clause(text: &mut String, clause: &[i16]) -> Result<(), AllocError> {
+    for literal in clause {
+        write!(text, "{literal} ")?;
     }
-    sum
+    text.push_str("0\n")
 }
 
 // The formula that the solver was given for a fault of this card, as text.
@@ -58,10 +48,7 @@ fn text(heap: Global, card: &Card, solver: &Backtracking) -> anyhow::Result<Stri
         "c leading {leading}\nc places {places}\np cnf {variables} {count}\n"
     )?;
     for clause in clauses.as_slice() {
-        for literal in *clause {
-            write!(text, "{literal} ")?;
-        }
-        text.push_str("0\n")?;
+        put_clause(&mut text, clause)?;
     }
     Ok(text)
 }
@@ -73,13 +60,12 @@ fn answer(
     solver: &mut Backtracking,
     line: &str,
 ) -> anyhow::Result<()> {
-    let Some(fault) = fault_number(line) else {
+    let Some(fault) = number::<usize>(line) else {
         println!(rt; "not a fault number")?;
         return Ok(());
     };
     if let Err(refusal) = pose(solver, model, fault) {
-        let number = refusal.number();
-        println!(rt; "refused {number}")?;
+        println!(rt; "refused {}", refusal.number())?;
         return Ok(());
     }
     let text = text(rt.alloc(), model.card(), solver)?;
@@ -99,20 +85,11 @@ fn serve(rt: &HostRuntime, card: Card) -> anyhow::Result<()> {
 }
 
 fn run(rt: &HostRuntime) -> anyhow::Result<()> {
-    let Some(path) = env::args(rt)?.nth(1) else {
-        return Err(anyhow!("usage: clauses CARD-FILE < FAULT-NUMBERS"));
-    };
-    let bytes = fs::read(rt, path.as_str())?;
-    match from_bytes(rt.alloc(), bytes.as_slice()) {
-        Ok(card) => serve(rt, card),
-        Err(CardFault::Memory) => Err(anyhow!("no memory to hold the card")),
-        Err(fault) => {
-            let number = fault.number();
-            let offset = fault.offset();
-            println!(rt; "card refused {number} at {offset}")?;
-            Ok(())
-        }
+    match card_named(rt, "usage: clauses CARD-FILE < FAULT-NUMBERS")? {
+        Ok(card) => serve(rt, card)?,
+        Err(fault) => println!(rt; "{fault}")?,
     }
+    Ok(())
 }
 
 fn main(rt: HostRuntime) -> anyhow::Result<()> {

@@ -1,38 +1,37 @@
 -- A request served by the job leaves each taken fault its one ticket.
-use Rattle.std.proofs.Common.{◌≡◌, ℕ, zero, suc, ◌+◌, ◌<◌, ◌≤◌, Bool, true, false, cond, eqb, List, [], ◌∷◌, ◌++◌, map, length, get_or, set, is_ok, IfOk, IfErr, Ok, Err, count_by, Result, sym, refl, ap, ◌∙◌, subst, ⊎_elim, arith, get_or-set_other, get_or-set_same}
+use Rattle.std.proofs.Common.{◌≡◌, ℕ, zero, suc, ◌+◌, ◌<◌, ◌≤◌, Bool, true, false, cond, eqb, List, [], ◌∷◌, ◌++◌, map, length, get_or, set, is_ok, IfOk, IfErr, Ok, Err, Some, None, Option, MatchOption, count_by, Result, sym, refl, ap, ◌∙◌, subst, ⊎_elim, arith, get_or-set_other, get_or-set_same}
 use mathlib.Core.HLevel.{hedberg, Π_prop}
 use mathlib.Core.Logic.{∥∥₁_elim}
 use native.Mathlib.Decide.{ℕ_discrete}
 use lib.ListN.{length-map, get_or-map}
-use Rattle.std.specs.List.{remove}
-use Rattle.std.proofs.lemmas.List.{get_or_default, map-append}
+use Rattle.std.specs.List.{AllWithin, HoldsAt, remove}
+use Rattle.std.proofs.lemmas.List.{map-append}
 use Rattle.std.proofs.lemmas.List.Sums.{sum_by_push}
 use Rattle.std.proofs.lemmas.Bool.{cases_eq, eq-eqb, ne_eqb}
 use Rattle.card.specs.Netlists.{Netlist}
 use Rattle.faults.specs.Sites.{fault_count}
 use Rattle.solving.specs.declared.verdict.Solved.{Solved}
 use Rattle.asking.specs.Findings.{Finding, shown, untestable, unknown}
-use Rattle.history.specs.Changing.{closing, entering}
-use Rattle.history.specs.Granting.{closes}
+use Rattle.history.specs.Changing.{entering}
 use Rattle.history.specs.Histories.{History, LeadsTo}
 use Rattle.history.specs.Promises.{Reached}
 use Rattle.history.specs.Steps.{KnownTicket, Step, closed, searched, took}
-use Rattle.history.specs.Views.{View, is_taken, new_view}
+use Rattle.history.specs.Views.{View, is_taken}
 use Rattle.history.specs.declared.refusal.CloseRefusal.{CloseRefusal}
-use Rattle.history.specs.declared.refusal.CloseRefusal.TheVariants.{NotTaken}
 use Rattle.history.specs.declared.refusal.SearchRefusal.{SearchRefusal}
 use Rattle.history.specs.declared.refusal.TakeRefusal.{TakeRefusal}
 use Rattle.history.proofs.Granted.{close_able, taken_able}
-use Rattle.history.proofs.Tickets.{count_cons, get_d_new, taken_within}
+use Rattle.history.proofs.Tickets.{count_cons, taken_within}
 use Rattle.job.specs.Jobs.{card_held, held}
 use Rattle.job.specs.declared.job.Job.{Job}
 use Rattle.job.specs.declared.ticket.Ticket.{Ticket}
+use Rattle.job.proofs.Tabled.{all_flagged}
 use Rattle.requests.specs.Running.{Runs}
 use Rattle.requests.specs.Serving.{Idle, Known, Meets, Serves, at, mine}
 use Rattle.requests.specs.declared.reply.Reply.{Reply}
 use Rattle.requests.specs.declared.request.Request.{Request}
 use Rattle.requests.specs.declared.request.Request.TheVariants.{Take, Search, Close, Sweep, Add, Merge}
-use Rattle.desk.specs.Keeping.{Kept, faults_of}
+use Rattle.desk.specs.Keeping.{IsFor, Kept, faults_of}
 
 abbrev bit : Bool → ℕ
 bit b = cond b 1 0
@@ -162,7 +161,7 @@ one_kept c v w ts us q rs long reached runs kept =
 
 -- every fault of a job has a flag
 flags_long : (j : Job) → length (held j).taken ≡ fault_count (card_held j)
-flags_long j = sym j.table.taken.ok.0 ∙ j.table.a_flag_for_each_fault
+flags_long j = all_flagged j.table
 
 -- a run of one request, or one that was not begun for want of room
 pub run_kept : {V E : Type 0} (replies : V → List Reply) (j k : Job) (ts us : List Ticket) (q : Request) (r : Result V E) → IfOk r (λ (x : V). Runs (card_held j) (held j) ts (q ∷ []) (replies x) (held k) us)
@@ -178,9 +177,6 @@ one_reply (x ∷ y ∷ rs) r long is = absurd (omega arith)
 
 -- ---- the ends
 
-pub kept_new : (c : Netlist) (v : View) (ts : List Ticket) → v ≡ new_view c → ts ≡ [] → Kept v ts
-kept_new c v ts new none f = ap (λ (us : List Ticket). many f (faults_of us)) none ∙ sym (ap (λ (w : View). bit (is_taken w f)) new ∙ ap bit (get_d_new (fault_count c) f false))
-
 flagged : (b : Bool) (n : ℕ) → n + 1 ≡ bit b → b ≡ true
 flagged true n e = refl
 flagged false n e = absurd (omega arith)
@@ -188,28 +184,6 @@ flagged false n e = absurd (omega arith)
 unflagged : (b : Bool) → 0 ≡ bit b → b ≡ false
 unflagged true e = absurd (omega arith)
 unflagged false e = refl
-
-refused_granted : (e : CloseRefusal) (u : Unit {0}) → ◌≡◌ {A = Result (Unit {0}) CloseRefusal} (Err e) (Ok u) → ⊥
-refused_granted e u q = let z : ◌≡◌ {A = ℕ} 0 1 = cc in omega arith
-
-module _ (v : View) (ts us : List Ticket) (t : Ticket) (last : us ≡ ts ++ (t ∷ [])) (kept : Kept v us) where
-  grown : faults_of us ≡ faults_of ts ++ (t.fault ∷ [])
-  grown = ap faults_of last ∙ map-append (λ (x : Ticket). x.fault) ts (t ∷ [])
-
-  less : (f : ℕ) → many f (faults_of ts) + bit (eqb t.fault f) ≡ many f (faults_of us)
-  less f = sym (sum_by_push (λ (n : ℕ). bit (eqb n f)) (faults_of ts) t.fault) ∙ ap (many f) (sym grown)
-
-  -- the fault of a kept ticket is taken
-  pub last_taken : is_taken v t.fault ≡ true
-  last_taken =
-      let one : bit (eqb t.fault t.fault) ≡ 1 = ap bit (eq-eqb t.fault t.fault refl) in
-      flagged (is_taken v t.fault) (many t.fault (faults_of ts)) (omega (arith, less t.fault, kept t.fault, one))
-
-  pub last_not_refused : (e : CloseRefusal) → Err e ≡ closes v t.fault → ⊥
-  last_not_refused e q = refused_granted e tt (q ∙ ap (λ (b : Bool). cond b (Ok tt) (Err NotTaken)) last_taken)
-
-  pub last_closed : Kept (closing v t.fault) ts
-  last_closed = matches_closed v.taken (faults_of us) (faults_of ts) t.fault last_taken less kept
 
 pub none_taken : (v : View) (ts : List Ticket) → length ts ≡ 0 → Kept v ts → (f : ℕ) → is_taken v f ≡ false
 none_taken v [] e kept f = unflagged (is_taken v f) (kept f)
@@ -220,21 +194,8 @@ none_taken v (t ∷ ts) e kept f = absurd (omega arith)
 abbrev fault_of : Ticket → ℕ
 fault_of t = t.fault
 
-pub fault_at : (ts : List Ticket) (i : ℕ) (t : Ticket) → i < length ts → t ≡ get_or ts i t → get_or (faults_of ts) i 0 ≡ t.fault
-fault_at ts i t lt is =
-    let zeroth : Ticket = record { fault = 0 } in
-    get_or-map fault_of ts i zeroth ∙ ap fault_of (sym (is ∙ get_or_default ts i t zeroth lt))
-
--- none of the first n tickets is for the fault
-abbrev pub NoneFor : ℕ → List Ticket → ℕ → Type 0
-NoneFor f ts n = (i : ℕ) → i < n → eqb (get_or (faults_of ts) i 0) f ≡ false
-
-pub none_further : (f : ℕ) (ts : List Ticket) (n : ℕ) (t : Ticket) → n < length ts → t ≡ get_or ts n t → (t.fault ≡ f → ⊥) → NoneFor f ts n → NoneFor f ts (n + 1)
-none_further f ts n t lt is ne before i below =
-    ⊎_elim
-    (λ (q : i ≡ n). ap (λ (k : ℕ). eqb (get_or (faults_of ts) k 0) f) q ∙ ap (λ (k : ℕ). eqb k f) (fault_at ts n t lt is) ∙ ne_eqb t.fault f ne)
-    (λ (q : i ≡ n → ⊥). before i (omega arith))
-    (cases_eq i n)
+abbrev zeroth : Ticket
+zeroth = record { fault = 0 }
 
 none_many : (f : ℕ) (ns : List ℕ) → ((i : ℕ) → i < length ns → eqb (get_or ns i 0) f ≡ false) → many f ns ≡ 0
 none_many f [] none = refl
@@ -242,5 +203,17 @@ none_many f (n ∷ ns) none =
     let z : bit (eqb n f) ≡ 0 = ap bit (none 0 (omega arith)) in
     omega (arith, count_cons (λ (k : ℕ). eqb k f) n ns, z, none_many f ns (λ i lt. none (suc i) (omega arith)))
 
-pub none_for : (v : View) (f : ℕ) (ts : List Ticket) (n : ℕ) → length ts ≤ n → NoneFor f ts n → Kept v ts → is_taken v f ≡ false
-none_for v f ts n all none kept = unflagged (is_taken v f) (sym (none_many f (faults_of ts) (λ i lt. none i (omega (arith, all, length-map ts fault_of)))) ∙ kept f)
+-- a ticket is for this fault, or for another
+abbrev pub For : ℕ → Ticket → Type 0
+For f t = t.fault ≡ f
+
+abbrev pub NotFor : ℕ → Ticket → Type 0
+NotFor f t = eqb t.fault f ≡ false
+
+-- the place of the first ticket for the fault; where there is none, the fault is not taken
+pub place_found : (v : View) (f : ℕ) (ts : List Ticket) (r : Option ℕ) → Kept v ts → MatchOption r (AllWithin (NotFor f) ts 0 (length ts)) (λ (i : ℕ). (i < length ts) × HoldsAt (For f) ts i × AllWithin (NotFor f) ts 0 i)
+    → MatchOption r (is_taken v f ≡ false) (λ (i : ℕ). IsFor f ts i)
+place_found v f ts None kept none =
+    unflagged (is_taken v f)
+    (sym (none_many f (faults_of ts) (λ i lt. ap (λ (k : ℕ). eqb k f) (get_or-map fault_of ts i zeroth) ∙ none i zeroth (omega arith) (omega (arith, lt, length-map ts fault_of)))) ∙ kept f)
+place_found v f ts (Some i) kept (lt, is, _) = (lt, get_or-map fault_of ts i zeroth ∙ is zeroth)

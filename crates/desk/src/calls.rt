@@ -39,12 +39,9 @@ impl Desk {
     pub fn place(&self, fault: usize) -> Option<usize>
         ensures finds_its_ticket_unless_the_fault_is_not_taken { MatchOption result (is_taken (held_at self.now) fault ≡ false) (λ i. IsFor fault (tickets_at self.now) i) }
     {
-        for place in 0..self.tickets.len() {
-            if self.tickets[place].fault() == fault {
-                return Some(place);
-            }
-        }
-        None
+        self.tickets
+            .iter()
+            .position(|ticket| ticket.fault() == fault)
     }
 
     // Asks the job for the request, with the tickets and the solver, and answers what it got.

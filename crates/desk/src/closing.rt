@@ -15,9 +15,8 @@ pub(crate) fn close_each(job: &mut Job, tickets: &mut Vec<Ticket>) -> usize
 {
     let count = tickets.len();
     while let Some(ticket) = tickets.pop() {
-        match job.close(ticket) {
-            Ok(()) => {}
-            Err(_back) => unreachable(),
+        if let Err(_back) = job.close(ticket) {
+            unreachable()
         }
     }
     count

@@ -4,10 +4,8 @@
 
 use anyhow::anyhow;
 use card::netlist::Card;
-use reading::fault::CardFault;
-use reading::read::from_bytes;
+use console::card_named;
 use std::io::{BufRead, BufReader};
-use std::{env, fs};
 use tester::outputs::expected_outputs;
 use vectors::row::row;
 
@@ -18,46 +16,32 @@ fn answer(rt: &HostRuntime, card: &Card, line: &str) -> anyhow::Result<()> {
         println!(rt; "not a row of {inputs} cells")?;
         return Ok(());
     };
+    // Lent, since the tester's call for C fills such a buffer, and answers how many characters it wrote.
     let mut shown = [b' '; 32];
     let Ok(count) = expected_outputs(card, &vector, &mut shown) else {
         return Err(anyhow!("a card with more than 32 outputs"));
     };
-    let mut text = String::new(rt.alloc());
-    for byte in shown.iter().take(count) {
-        text.push(char::from(*byte))?;
-    }
+    let characters = shown.iter().take(count).map(|byte| char::from(*byte));
+    let text: String = characters.collect(rt.alloc())?;
     println!(rt; "{text}")?;
     Ok(())
 }
 
-// Says why the card was refused.
-fn refuse(rt: &HostRuntime, fault: CardFault) -> anyhow::Result<()> {
-    let number = fault.number();
-    let offset = fault.offset();
-    match fault {
-        CardFault::Memory => Err(anyhow!("no memory to hold the card")),
-        _ => {
-            println!(rt; "card refused {number} at {offset}")?;
-            Ok(())
-        }
+// Answers every line of cells for a good card.
+fn serve(rt: &HostRuntime, card: &Card) -> anyhow::Result<()> {
+    for line in BufReader::new(rt.alloc(), rt.stdin())?.lines(rt.alloc()) {
+        let text = line?;
+        answer(rt, card, text.as_str())?;
     }
+    Ok(())
 }
 
 fn run(rt: &HostRuntime) -> anyhow::Result<()> {
-    let Some(path) = env::args(rt)?.nth(1) else {
-        return Err(anyhow!("usage: expected CARD-FILE < ROWS"));
-    };
-    let bytes = fs::read(rt, path.as_str())?;
-    match from_bytes(rt.alloc(), bytes.as_slice()) {
-        Ok(card) => {
-            for line in BufReader::new(rt.alloc(), rt.stdin())?.lines(rt.alloc()) {
-                let text = line?;
-                answer(rt, &card, text.as_str())?;
-            }
-            Ok(())
-        }
-        Err(fault) => refuse(rt, fault),
+    match card_named(rt, "usage: expected CARD-FILE < ROWS")? {
+        Ok(card) => serve(rt, &card)?,
+        Err(fault) => println!(rt; "{fault}")?,
     }
+    Ok(())
 }
 
 fn main(rt: HostRuntime) -> anyhow::Result<()> {

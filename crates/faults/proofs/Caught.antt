@@ -1,6 +1,6 @@
 -- A catch at an output is shown there by every filling; where no cell is free, a showing is a catch.
-use Rattle.std.proofs.Common.{◌≡◌, ℕ, zero, suc, ◌+◌, ◌<◌, ◌≤◌, Bool, true, false, not, ◌||◌, List, [], ◌∷◌, length, get_or, take, drop, Some, None, Decides, Option, sym, refl, ap, ◌∙◌, subst, ap₂, ⊎_elim, arith}
-use Rattle.std.proofs.lemmas.List.{at_drop_all, at_drop_more, get_or_default}
+use Rattle.std.proofs.Common.{◌≡◌, ℕ, zero, suc, ◌<◌, Bool, true, false, not, ◌||◌, List, [], ◌∷◌, length, get_or, take, Some, None, Decides, Option, sym, refl, ap, ◌∙◌, subst, ap₂, ⊎_elim, arith}
+use Rattle.std.proofs.lemmas.List.{get_or_default}
 use Rattle.std.proofs.lemmas.Bool.{false≢true, or_cases, or_left, or_right, true≢false}
 use Rattle.card.specs.Netlists.{Lawful, Netlist, all_below, nets}
 use Rattle.signal.specs.declared.line.Stuck.{Stuck}
@@ -47,18 +47,6 @@ somewhere_read n xs ys good faulty (o ∷ os) b p q =
 -- what two reads tell of a net, whatever is read past the ends
 pub opposite_read : (xs ys : List Ternary) (net n : ℕ) (d e : Ternary) (b : Bool) → net < n → length xs ≡ n → length ys ≡ n → b ≡ opposite (get_or xs net d) (get_or ys net e) → opposite_at xs ys net ≡ b
 opposite_read xs ys net n d e b h p q t = ap₂ opposite (get_or_default xs net X d (omega arith)) (get_or_default ys net X e (omega arith)) ∙ sym t
-
--- ---- a list of nets gone through from the front
-
-module _ (good faulty : List Ternary) (os : List ℕ) (i : ℕ) where
-  pub somewhere_here : i < length os → opposite_at good faulty (get_or os i 0) ≡ true → opposite_somewhere good faulty (drop i os) ≡ opposite_somewhere good faulty os → true ≡ opposite_somewhere good faulty os
-  somewhere_here h t inv = sym (at_drop_more (opposite_somewhere good faulty) os i 0 h ∙ ap (λ (b : Bool). b || opposite_somewhere good faulty (drop (i + 1) os)) t) ∙ inv
-
-  pub somewhere_later : i < length os → opposite_at good faulty (get_or os i 0) ≡ false → opposite_somewhere good faulty (drop i os) ≡ opposite_somewhere good faulty os → opposite_somewhere good faulty (drop (i + 1) os) ≡ opposite_somewhere good faulty os
-  somewhere_later h t inv = sym (at_drop_more (opposite_somewhere good faulty) os i 0 h ∙ ap (λ (b : Bool). b || opposite_somewhere good faulty (drop (i + 1) os)) t) ∙ inv
-
-  pub somewhere_all : length os ≤ i → opposite_somewhere good faulty (drop i os) ≡ opposite_somewhere good faulty os → false ≡ opposite_somewhere good faulty os
-  somewhere_all h inv = sym (at_drop_all (opposite_somewhere good faulty) os i h) ∙ inv
 
 -- ---- opposite values and the bits that they allow
 

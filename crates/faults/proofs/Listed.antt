@@ -1,18 +1,16 @@
 -- The list of readers, one gate more at a time; how many read a net, one reader more at a time; and how many there are.
-use Rattle.std.proofs.Common.{◌≡◌, ℕ, suc, ◌+◌, ◌*◌, ◌<◌, ◌≤◌, Bool, true, false, cond, leb, List, [], ◌∷◌, ◌++◌, length, get_or, take, drop, set, sym, refl, ap, ◌∙◌, ⊎_elim, append_assoc, add-zero, add-suc, suc-add, arith, length-append, length-take}
+use Rattle.std.proofs.Common.{◌≡◌, ℕ, zero, suc, ◌+◌, ◌*◌, ◌<◌, ◌≤◌, Bool, true, leb, List, [], ◌∷◌, ◌++◌, length, get_or, drop, replicate, sym, refl, ap, ◌∙◌, subst, append_assoc, add-zero, add-suc, suc-add, arith, length-append}
 use Rattle.std.specs.List.{AllByRecursion as All}
-use Rattle.std.proofs.lemmas.List.Elements.{filter_more}
 use Rattle.std.proofs.ByRecursion.{All-append, All-get_or}
-use Rattle.std.proofs.lemmas.List.{append-nil, at_drop_all, at_drop_more, get_or-set_other, get_or-set_same, take_all}
-use Rattle.std.proofs.lemmas.List.Sums.{count_by-le-length, count_by_more_no, count_by_more_yes, length-filter}
-use Rattle.std.proofs.lemmas.Bool.{cases_eq, eq-eqb, ne_eqb}
+use Rattle.std.proofs.lemmas.List.{append-nil, at_drop_all, at_drop_more}
+use Rattle.std.proofs.lemmas.List.Sums.{count_by-le-length, length-filter}
 use Rattle.card.specs.declared.gate.Gate.{Gate}
 use Rattle.card.specs.declared.gate.Operands.{Operands}
 use Rattle.card.specs.declared.gate.Operands.TheVariants.{None, One, Two}
 use Rattle.card.specs.Netlists.{Lawful, Netlist, Ordered, all_below, nets_read, pins_of}
 use Rattle.card.proofs.Below.{below_head, below_tail}
 use Rattle.faults.specs.declared.reader.Reader.{Reader}
-use Rattle.faults.specs.Readers.{branches, gate_readers, pin_readers, read_in, readers, reads, shared}
+use Rattle.faults.specs.Readers.{branches, gate_readers, pin_readers, read_in, readers}
 
 -- ---- the list, one gate more
 
@@ -30,41 +28,13 @@ listed_more k i n gs g old more h e p inv =
 pub listed_all : (k i : ℕ) (gs : List Gate) (list : List Reader) → length gs ≤ i → list ++ gate_readers (k + i) (drop i gs) ≡ gate_readers k gs → list ≡ gate_readers k gs
 listed_all k i gs list h inv = sym (append-nil list) ∙ ap (λ z. list ++ z) (sym (at_drop_all (gate_readers (k + i)) gs i h)) ∙ inv
 
--- ---- the counts, one reader more
+-- ---- the counts
 
-pub counted_fits : (list : List Reader) (i net : ℕ) → read_in (take i list) net ≤ i
-counted_fits list i net = let a = count_by-le-length (reads net) (take i list) in let b = length-take i list in omega arith
-
-pub counted_more : (counts : List ℕ) (list : List Reader) (i m x : ℕ) (d : Reader) → i < length list → length counts ≡ 256 → m < 256 → m ≡ (get_or list i d).net → x ≡ get_or counts m 0 + 1
-    → ((net : ℕ) → net < 256 → get_or counts net 0 ≡ read_in (take i list) net) → (net : ℕ) → net < 256 → get_or (set counts m x) net 0 ≡ read_in (take (i + 1) list) net
-counted_more counts list i m x d h len lm e s inv net l =
-    ⊎_elim
-    (λ q. let here : get_or (set counts m x) net 0 ≡ x = ap (λ n. get_or (set counts m x) n 0) q ∙ get_or-set_same counts m x 0 (omega arith) in
-    let more = count_by_more_yes (reads net) list i d h (eq-eqb net (get_or list i d).net (q ∙ e)) in
-    let old : get_or counts m 0 ≡ read_in (take i list) net = ap (λ n. get_or counts n 0) (sym q) ∙ inv net l in
-    here ∙ s ∙ ap (λ n. n + 1) old ∙ sym more)
-    (λ q. let more = count_by_more_no (reads net) list i d h (ne_eqb net (get_or list i d).net (λ z. q (z ∙ sym e))) in
-    get_or-set_other counts m net x 0 q ∙ inv net l ∙ sym more)
-    (cases_eq net m)
-
--- ---- the readers that share their net, one reader more
-
-pub shared_more_yes : (all list kept more : List Reader) (i : ℕ) (r : Reader) (d : Reader) → i < length list → r ≡ get_or list i d → 2 ≤ read_in all r.net → more ≡ kept ++ (r ∷ []) → kept ≡ shared all (take i list) → more ≡ shared all (take (i + 1) list)
-shared_more_yes all list kept more i r d h e t p inv =
-    let test : Reader → Bool = λ s. leb 2 (read_in all s.net) in
-    let yes : test (get_or list i d) ≡ true = ap test (sym e) ∙ grind arith in
-    p ∙ ap (λ z. kept ++ (z ∷ [])) e ∙ ap (λ z. z ++ (get_or list i d ∷ [])) inv
-    ∙ sym (filter_more test list i d h ∙ ap (λ b. shared all (take i list) ++ cond b (get_or list i d ∷ []) []) yes)
-
-pub shared_more_no : (all list kept : List Reader) (i : ℕ) (r : Reader) (d : Reader) → i < length list → r ≡ get_or list i d → read_in all r.net < 2 → kept ≡ shared all (take i list) → kept ≡ shared all (take (i + 1) list)
-shared_more_no all list kept i r d h e t inv =
-    let test : Reader → Bool = λ s. leb 2 (read_in all s.net) in
-    let none : test (get_or list i d) ≡ false = ap test (sym e) ∙ grind arith in
-    inv ∙ sym (append-nil (shared all (take i list)))
-    ∙ sym (filter_more test list i d h ∙ ap (λ b. shared all (take i list) ++ cond b (get_or list i d ∷ []) []) none)
-
-pub shared_all : (all list kept : List Reader) (i : ℕ) → length list ≤ i → kept ≡ shared all (take i list) → kept ≡ shared all list
-shared_all all list kept i h inv = inv ∙ ap (shared all) (take_all i list h)
+-- at first every net is read by none
+pub read_by_none : (n net : ℕ) → ◌≡◌ {A = ℕ} (get_or (replicate n 0) net 0) 0
+read_by_none zero net = refl
+read_by_none (suc n) zero = refl
+read_by_none (suc n) (suc net) = read_by_none n net
 
 -- ---- how many readers, and which nets they read
 
@@ -111,13 +81,7 @@ gates_on_card j (g ∷ gs) h o =
     (pins_on_card j j 0 (pins_of g) (omega arith) (ap (λ m. all_below m (pins_of g)) (sym (add-zero j)) ∙ o 0 g (omega arith)))
     (gates_on_card (suc j) gs (omega arith) (ordered_rest j g gs o))
 
--- the same of an equal list
-pub at_same : (list all : List Reader) → list ≡ all → ((i : ℕ) (d : Reader) → i < length all → (get_or all i d).net < 256) → (i : ℕ) (d : Reader) → i < length list → (get_or list i d).net < 256
-at_same list all e a i d h =
-    let l = ap length e in
-    let q : (get_or list i d).net ≡ (get_or all i d).net = ap (λ z. (get_or z i d).net) e in
-    let b : (get_or all i d).net < 256 = a i d (omega arith) in
-    omega arith
-
 pub on_card : (c : Netlist) (list : List Reader) → Lawful c → list ≡ readers c → (i : ℕ) (d : Reader) → i < length list → (get_or list i d).net < 256
-on_card c list r e = at_same list (readers c) e (λ i d h. All-get_or OnCard (readers c) i d h (gates_on_card c.inputs c.gates r.nets_fit r.ordered))
+on_card c list r e i d h =
+    let all = gates_on_card c.inputs c.gates r.nets_fit r.ordered in
+    subst (λ (z : List Reader). i < length z → (get_or z i d).net < 256) (sym e) (λ l. All-get_or OnCard (readers c) i d l all) h

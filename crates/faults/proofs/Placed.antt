@@ -1,7 +1,9 @@
 -- Elements and places of a list: what stands at a place, what stands somewhere, and what a filter or a map leaves of it.
-use Rattle.std.proofs.Common.{◌≡◌, ℕ, zero, suc, Bool, true, ◌⊎◌, List, [], ◌∷◌, ◌++◌, map, Some, filter, sym, refl, ap, ◌∙◌, subst, inl, inr, arith}
+use Rattle.std.proofs.Common.{◌≡◌, ℕ, zero, suc, Bool, true, ◌⊎◌, List, [], ◌∷◌, ◌++◌, map, Some, filter, sym, refl, ap, ◌∙◌, subst, inl, inr}
 use Rattle.std.specs.List.{AllByRecursion as All, slice_get}
+use Rattle.std.specs.Option.{option_map}
 use Rattle.std.proofs.lemmas.Bool.{cond_both, cond-true}
+use Rattle.std.proofs.lemmas.Option.{slice_get-map}
 
 -- an element stands in a list
 abbrev pub In : {X : Type 0} → List X → X → Type 0
@@ -24,7 +26,7 @@ module _ {X : Type 0} where
   has_nth (y ∷ ys) x (inr h) = let r = has_nth ys x h in (suc r.0, r.1)
 
   pub all_nth : (P : X → Type 0) (xs : List X) (i : ℕ) (x : X) → All P xs → slice_get xs i ≡ Some x → P x
-  all_nth P [] i x a e = absurd (let z : ◌≡◌ {A = ℕ} 0 1 = cc in omega arith)
+  all_nth P [] i x a e = absurd (cc)
   all_nth P (y ∷ ys) zero x a e = let q : y ≡ x = cc in subst P q a.0
   all_nth P (y ∷ ys) (suc i) x a e = all_nth P ys i x a.1 e
 
@@ -34,11 +36,9 @@ module _ {X : Type 0} where
   has_kept p (y ∷ ys) x (inr h) t = cond_both (p y) (y ∷ filter p ys) (filter p ys) (λ zs. In zs x) (λ e. inr (has_kept p ys x h t)) (λ e. has_kept p ys x h t)
 
 pub nth_map : {X Y : Type 0} (f : X → Y) (xs : List X) (i : ℕ) (y : Y) → slice_get (map f xs) i ≡ Some y → (x : X) × (slice_get xs i ≡ Some x) × (f x ≡ y)
-nth_map f [] i y e = absurd (let z : ◌≡◌ {A = ℕ} 0 1 = cc in omega arith)
+nth_map f [] i y e = absurd (cc)
 nth_map f (x ∷ xs) zero y e = (x, refl, cc)
 nth_map f (x ∷ xs) (suc i) y e = nth_map f xs i y e
 
 pub map_nth : {X Y : Type 0} (f : X → Y) (xs : List X) (i : ℕ) (x : X) → slice_get xs i ≡ Some x → slice_get (map f xs) i ≡ Some (f x)
-map_nth f [] i x e = absurd (let z : ◌≡◌ {A = ℕ} 0 1 = cc in omega arith)
-map_nth f (w ∷ xs) zero x e = let q : w ≡ x = cc in ap (λ v. Some (f v)) q
-map_nth f (w ∷ xs) (suc i) x e = map_nth f xs i x e
+map_nth f xs i x e = slice_get-map f xs i ∙ ap (option_map f) e

@@ -22,7 +22,7 @@ module _ {X : Type 0} (R : X → X → Type 0) where
       (λ e. rising_kept p xs a.1)
 
   pub rising_at : (xs : List X) (i j : ℕ) (x y : X) → Rising xs → i < j → slice_get xs i ≡ Some x → slice_get xs j ≡ Some y → R x y
-  rising_at [] i j x y a h p q = absurd (let z : ◌≡◌ {A = ℕ} 0 1 = cc in omega arith)
+  rising_at [] i j x y a h p q = absurd (cc)
   rising_at (w ∷ xs) zero zero x y a h p q = absurd (omega arith)
   rising_at (w ∷ xs) zero (suc j) x y a h p q = let e : w ≡ x = cc in rw (← e) (all_nth (R w) xs j y a.0 q)
   rising_at (w ∷ xs) (suc i) zero x y a h p q = absurd (omega arith)

@@ -1,5 +1,5 @@
 -- The laws of the sites: which lines they have, in which order, and which pins are among them.
-use Rattle.std.proofs.Common.{◌≡◌, ℕ, zero, suc, ◌+◌, ◌-◌, ◌*◌, ◌/◌, ◌%◌, ◌<◌, ◌≤◌, Bool, true, false, cond, eqb, ltb, leb, List, [], ◌∷◌, length, get_or, Some, None, sum_by, Option, sym, refl, ap, ◌∙◌, subst, ap₂, inl, inr, ⊎_elim, add-zero, add-suc, suc-add, arith}
+use Rattle.std.proofs.Common.{◌≡◌, ℕ, zero, suc, ◌+◌, ◌-◌, ◌*◌, ◌/◌, ◌%◌, ◌<◌, ◌≤◌, Bool, true, false, cond, eqb, ltb, leb, List, [], ◌∷◌, get_or, Some, None, sum_by, Option, sym, refl, ap, ◌∙◌, subst, ap₂, inl, inr, ⊎_elim, add-zero, add-suc, suc-add, arith}
 use Rattle.std.specs.List.{AllByRecursion as All, slice_get}
 use Rattle.std.proofs.lemmas.Nat.{div-add-mod', div-mul-add, mod_below, mod-mul-add}
 use Rattle.std.proofs.ByRecursion.{All-append, all_kept_by, All-weaker, kept_by_passes}
@@ -63,7 +63,7 @@ abbrev PinIn : List Gate → ℕ → ℕ → ℕ → Type 0
 PinIn gs i p net = (g : Gate) × (slice_get gs i ≡ Some g) × (slice_get (pins_of g) p ≡ Some net)
 
 pins_have : (j p : ℕ) (xs : List ℕ) (q net : ℕ) → slice_get xs q ≡ Some net → In (pin_readers j p xs) (record { line = Pin j (p + q); net = net })
-pins_have j p [] q net e = absurd (let z : ◌≡◌ {A = ℕ} 0 1 = cc in omega arith)
+pins_have j p [] q net e = absurd (cc)
 pins_have j p (x ∷ xs) zero net e =
     let n : x ≡ net = cc in
     inl (ap₂ (λ (m k : ℕ). record { line = Pin j m; net = k }) (sym (add-zero p)) n)
@@ -71,7 +71,7 @@ pins_have j p (x ∷ xs) (suc q) net e =
     inr (subst (λ (m : ℕ). In (pin_readers j (suc p) xs) (record { line = Pin j m; net = net })) (suc-add p q ∙ sym (add-suc p q)) (pins_have j (suc p) xs q net e))
 
 gates_have : (j : ℕ) (gs : List Gate) (i p net : ℕ) → PinIn gs i p net → In (gate_readers j gs) (record { line = Pin (j + i) p; net = net })
-gates_have j [] i p net r = absurd (let e = r.1 in let z : ◌≡◌ {A = ℕ} 0 1 = cc in omega arith)
+gates_have j [] i p net r = absurd (let e = r.1 in cc)
 gates_have j (g ∷ gs) zero p net r =
     let e = r.1 in
     let s : r.0 ≡ g = cc in
@@ -142,13 +142,6 @@ module _ (c : Netlist) where
   pub no_line_past : (j : ℕ) → site_count c ≤ j → line_of c j ≡ None
   no_line_past j h = line_past_nets j (omega arith) ∙ slice_get_past (branch_lines c) (j - n) (let l = length-map (branches c) (λ r. r.line) in omega arith)
 
-  -- what the list of branches holds at a place is the line of the site there
-  pub branch_read : (bs : List Reader) (site k : ℕ) (r : Reader) → bs ≡ branches c → k ≡ nets c → k ≤ site → site - k < length bs → r ≡ get_or bs (site - k) r → line_of c site ≡ Some r.line
-  branch_read bs site k r e q h l g =
-      line_past_nets site (omega arith)
-      ∙ map_nth (λ s. s.line) (branches c) (site - n) r
-      (ap₂ slice_get (sym e) (ap (λ (m : ℕ). site - m) (sym q)) ∙ slice_get-get_or bs (site - k) r l ∙ ap Some (sym g))
-
   pub few_sites : Lawful c → site_count c ≤ 766
   few_sites r = let b = length_branches c in let s = r.some_input in let f = r.nets_fit in omega arith
 
@@ -210,7 +203,7 @@ module _ (c : Netlist) where
 
   pub site_shared : (i p net : ℕ) → PinReads c i p net → IsSite c (Pin (c.inputs + i) p) → 2 ≤ read_count c net
   site_shared i p net r (j, e) = ⊎_elim
-      (λ a. absurd (let q = line_of_net j a in let z : ◌≡◌ {A = ℕ} 0 1 = cc in omega arith))
+      (λ a. absurd (let q = line_of_net j a in cc))
       (λ a.
       let s = branch_at j (Pin (c.inputs + i) p) a e in
       let t = all_nth (IsPinOf c.inputs c.gates) (branches c) (j - n) s.0 (branches_are c) s.1 in
@@ -227,7 +220,7 @@ module _ (c : Netlist) where
 -- ---- faults
 
 unstuck : (level : Bool) (o : Option Line) (s : Stuck) → stuck_at level o ≡ Some s → (o ≡ Some s.line) × (level ≡ s.level)
-unstuck level None s e = absurd (let z : ◌≡◌ {A = ℕ} 0 1 = cc in omega arith)
+unstuck level None s e = absurd (cc)
 unstuck level (Some l) s e =
     let q : record { line = l; level = level } ≡ s = cc in
     (ap (λ (x : Stuck). Some x.line) q, ap (λ (x : Stuck). x.level) q)

@@ -1,6 +1,7 @@
 -- What it is for a vector to catch a fault: with three values, good and faulty card have opposite definite bits at an output.
 -- X against 0 or 1 is no difference.
-use Rattle.std.specs.Prelude.{◌≡◌, ℕ, ◌<◌, Bool, true, false, ◌||◌, List, [], ◌∷◌, Some, None, Option, slice_index_or}
+use Rattle.std.specs.Prelude.{◌≡◌, ℕ, ◌<◌, Bool, true, false, List, Some, None, Option, slice_index_or}
+use Rattle.std.specs.List.{list_any}
 use Rattle.card.specs.Netlists.{Netlist}
 use Rattle.signal.specs.declared.line.Stuck.{Stuck}
 use Rattle.signal.specs.declared.ternary.Ternary.{Ternary}
@@ -30,8 +31,7 @@ opposite_at good faulty net = opposite (slice_index_or good net X) (slice_index_
 
 -- the values of some net of a list are opposite
 abbrev pub opposite_somewhere : List Ternary → List Ternary → List ℕ → Bool
-opposite_somewhere good faulty [] = false
-opposite_somewhere good faulty (net ∷ nets) = opposite_at good faulty net || opposite_somewhere good faulty nets
+opposite_somewhere good faulty nets = list_any (opposite_at good faulty) nets
 
 -- the vector catches the fault at output i
 abbrev pub caught_at : Netlist → Stuck → Cells → ℕ → Bool

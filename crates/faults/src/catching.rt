@@ -1,12 +1,11 @@
 // Whether a vector catches a fault: two walks with three values, of the good card and of the faulty one, compared at the outputs.
 // A catch means that every filling shows the fault; without free cells it means exactly that. Nothing is refused.
-ghost use Rattle.std.specs.Prelude.{◌≡◌, Bool, true, List, Decides};
-ghost use Rattle.card.specs.Netlists.{all_below};
+ghost use Rattle.std.specs.Prelude.{◌≡◌, ℕ, ◌<◌, Bool, true, List, length, Decides, slice_index_or};
 ghost use Rattle.card.specs.Views.{netlist_of};
 ghost use Rattle.vectors.specs.Extending.{Extends};
 ghost use Rattle.vectors.specs.Vectors.{Cells, Fills};
 ghost use Rattle.vectors.specs.Views.{cells_of};
-ghost use Rattle.faults.specs.Catching.{AllFixed, catches as catches_of, opposite as opposite_of, opposite_somewhere, ShownByEveryFilling};
+ghost use Rattle.faults.specs.Catching.{AllFixed, catches as catches_of, opposite as opposite_of, opposite_at, opposite_somewhere, ShownByEveryFilling};
 ghost use Rattle.faults.specs.Showing.{Shows};
 
 use card::netlist::Card;
@@ -19,23 +18,28 @@ use vectors::vector::Vector;
 fn opposite(good: Ternary, faulty: Ternary) -> bool
     ensures one_is_low_and_the_other_high { result ≡ opposite_of good faulty }
 {
-    match (good, faulty) {
-        (Ternary::Low, Ternary::High) | (Ternary::High, Ternary::Low) => true,
-        _ => false,
-    }
+    matches!(
+        (good, faulty),
+        (Ternary::Low, Ternary::High) | (Ternary::High, Ternary::Low)
+    )
+}
+
+// Whether the values of a net are opposite.
+fn opposite_at(good: &[Ternary; 256], faulty: &[Ternary; 256], net: usize) -> bool
+    requires is_a_net { net < 256 }
+    ensures says_whether_its_values_are_opposite { result ≡ opposite_at good.now faulty.now net }
+{
+    opposite(good[net], faulty[net])
 }
 
 // Whether the values of some of these nets are opposite.
 fn opposite_somewhere(outputs: &[u16], good: &[Ternary; 256], faulty: &[Ternary; 256]) -> bool
-    requires outputs_are_nets { all_below 256 outputs.now ≡ true }
+    requires outputs_are_nets { (i d : ℕ) → i < length outputs.now → slice_index_or outputs.now i d < 256 }
     ensures says_whether_some_are_opposite { result ≡ opposite_somewhere good.now faulty.now outputs.now }
 {
-    for net in outputs {
-        if opposite(good[*net as usize], faulty[*net as usize]) {
-            return true;
-        }
-    }
-    false
+    outputs
+        .iter()
+        .any(|net| opposite_at(good, faulty, *net as usize))
 }
 
 // Whether the vector catches the fault of the card.

@@ -1,5 +1,5 @@
 // A reader of a net: the line that it hangs on, and the net that it reads.
-// Gate pins are the readers of today; the line says which pin of which gate.
+// The readers are the pins of gates; the line says which pin of which gate.
 use signal::line::Line;
 
 #[derive(Clone, Copy)]

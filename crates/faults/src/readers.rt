@@ -40,49 +40,47 @@ fn push_pins(list: &mut Vec<Reader>, net: u16, gate: Gate) -> Result<(), AllocEr
 }
 
 // The readers of a card, gate by gate and pin by pin.
-pub(crate) fn list_readers(heap: Global, card: &Card) -> Result<Vec<Reader>, AllocError>
-    ensures lists_the_readers { IfOk result (λ list. list.items ≡ readers (netlist_of card.now)) }
-    ensures reads_nets_of_the_card { IfOk result (λ list. (i : ℕ) (d : Read) → i < length list.items → (slice_index_or list.items i d).net < 256) }
-{
-    let inputs = card.inputs();
-    let mut list = Vec::new(heap);
-    for (i, gate) in card.gates().iter().enumerate() {
-        push_pins(&mut list, (inputs + i) as u16, *gate)?;
-    }
-    Ok(list)
+#[derive(Drop)]
+pub(crate) struct Readers {
+    pub(crate) list: Vec<Reader>,
+    ghost read_nets_of_a_card: { (i : ℕ) (d : Read) → i < length list.items → (slice_index_or list.items i d).net < 256 },
 }
 
-// A number for each net that a card can have.
-pub(crate) type Counts = [usize; 256];
-
-// How many of the readers read each net.
-pub(crate) fn count_reads(list: &[Reader]) -> Counts
-    requires read_nets_of_a_card { (i : ℕ) (d : Read) → i < length list.now → (slice_index_or list.now i d).net < 256 }
-    ensures one_count_for_each_net { length result ≡ 256 }
-    ensures counts_the_readers { (net : ℕ) → net < 256 → slice_index result net ≡ read_in list.now net }
-{
-    let mut counts = [0; 256];
-    for reader in list {
-        counts[reader.net as usize] += 1;
-    }
-    counts
-}
-
-// The readers whose net has two readers or more.
-pub(crate) fn share(
-    heap: Global,
-    list: &[Reader],
-    counts: &[usize; 256],
-) -> Result<Vec<Reader>, AllocError>
-    requires read_nets_of_a_card { (i : ℕ) (d : Read) → i < length list.now → (slice_index_or list.now i d).net < 256 }
-    requires counts_are_the_lists { (net : ℕ) → net < 256 → slice_index counts.now net ≡ read_in list.now net }
-    ensures keeps_those_that_share { IfOk result (λ found. found.items ≡ shared list.now list.now) }
-{
-    let mut found = Vec::new(heap);
-    for reader in list {
-        if counts[reader.net as usize] >= SHARED {
-            found.push(*reader)?;
+impl Readers {
+    // Lists the readers of a card.
+    pub(crate) fn of(heap: Global, card: &Card) -> Result<Readers, AllocError>
+        ensures lists_the_readers { IfOk result (λ all. all.list.items ≡ readers (netlist_of card.now)) }
+    {
+        let inputs = card.inputs();
+        let mut list = Vec::new(heap);
+        // Gate i makes net inputs + i.
+        for (i, gate) in card.gates().iter().enumerate() {
+            push_pins(&mut list, (inputs + i) as u16, *gate)?;
         }
+        Ok(Readers { list })
     }
-    Ok(found)
+
+    // How many of the readers read each net.
+    fn counts(&self) -> [usize; 256]
+        ensures one_count_for_each_net { length result ≡ 256 }
+        ensures counts_the_readers { (net : ℕ) → slice_index result net ≡ read_in self.now.list.items net }
+    {
+        let mut counts = [0; 256];
+        for reader in &self.list {
+            counts[reader.net as usize] += 1;
+        }
+        counts
+    }
+
+    // The readers whose net has two readers or more.
+    pub(crate) fn shared(&self, heap: Global) -> Result<Vec<Reader>, AllocError>
+        ensures keeps_those_that_share { IfOk result (λ found. found.items ≡ shared self.now.list.items self.now.list.items) }
+    {
+        let counts = self.counts();
+        self.list
+            .iter()
+            .filter(|reader| counts[reader.net as usize] >= SHARED)
+            .copied()
+            .collect(heap)
+    }
 }

@@ -1,11 +1,12 @@
-// Why a fault number is refused, and the number that the refusal is reported by.
+// Why a fault number is refused.
+// The case has the number that the refusal is reported by.
 ghost use Rattle.std.specs.Prelude.{◌≡◌};
 ghost use Rattle.faults.specs.Refusals.{fault_refusal};
 
 #[derive(Clone, Copy)]
 pub enum FaultRefusal {
     // The card has no fault of this number.
-    NoSuchFault,
+    NoSuchFault = 9,
 }
 
 impl FaultRefusal {
@@ -13,8 +14,6 @@ impl FaultRefusal {
     pub fn number(self) -> u8
         ensures is_the_refusals_number { result ≡ fault_refusal self }
     {
-        match self {
-            FaultRefusal::NoSuchFault => 9,
-        }
+        self as u8
     }
 }

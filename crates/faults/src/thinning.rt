@@ -1,4 +1,5 @@
 // Thinning a setting that shows a fault to a vector that still catches it, with as many cells freed as go in rising order.
+// A cell that could not be freed is not tried again: with fewer cells fixed it fails too.
 ghost use Rattle.std.specs.Prelude.{◌≡◌, Bool, true, List};
 ghost use Rattle.card.specs.Views.{netlist_of};
 ghost use Rattle.vectors.specs.Extending.{Extends};

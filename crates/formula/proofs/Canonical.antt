@@ -3,7 +3,6 @@
 use Rattle.std.proofs.Common.{◌≡◌, ℕ, zero, suc, pred, ◌+◌, ◌-◌, ◌<◌, ◌≤◌, Bool, true, false, cond, List, [], ◌∷◌, ◌++◌, map, length, get_or, take, Some, None, Option, sym, refl, ap, ◌∙◌, ap₂, add-zero, add-suc, suc-add, arith, length-append}
 use mathlib.Core.Bool.{false≢true}
 use lib.ListN.{length-map}
-use Rattle.std.proofs.ByRecursion.{All-append}
 use Rattle.std.proofs.lemmas.List.{ext_get_or, get_or_append_left, get_or-append_right, get_or-map, get_or-take, length-take-le, take-append-le}
 use Rattle.std.specs.List.{AllByRecursion as All}
 use Rattle.card.specs.declared.function.Function.{Function}
@@ -17,7 +16,7 @@ use Rattle.signal.specs.Walks.{gate_net, level_of, net_values, pin_values, stick
 use Rattle.signal.proofs.Walked.{length_net_values, net_value_of_gate, net_value_of_input}
 use Rattle.formula.specs.Links.{copies, gate_links, input_links, link, links, output_links, pin_variables, tied}
 use Rattle.formula.specs.Variables.{difference, faulty, good, stuck_line, variables}
-use Rattle.formula.proofs.Linked.{ordered_head, ordered_tail}
+use Rattle.formula.proofs.Linked.{all_links, ordered_head, ordered_tail}
 use Rattle.formula.proofs.Renamed.{read_bits}
 use Rattle.formula.proofs.Ruled.{Holds}
 
@@ -128,19 +127,14 @@ module _ (c : Netlist) (s : Stuck) (lawful : Lawful c) (xs : List Bool) (fits : 
   links_hold =
       let r = canonical c s xs in
       let n = nets c in
-      All-append (Holds r) (gate_links good (stuck_line n) None c.inputs c.gates) _
+      all_links (Holds r) c s
       (gates_hold r good (stuck_line n) None (bit_nets c None xs) (λ j x. absurd (false≢true x)) (λ j p x. absurd (false≢true x)) c.gates c.inputs lawful.ordered at_good
-      (λ i d l. net_value_of_gate bit_operations None c xs fits lawful i d false l)) (
-        tied_holds r s.level (stuck_line n) at_line,
-        All-append (Holds r) (input_links n (Some s) 0 c.inputs) _
-            (inputs_hold r n s xs at_line c.inputs 0 (λ i l. at_good i (omega arith) ∙ good_input i (omega arith))
-            (λ i l. at_faulty i (omega arith) ∙ net_value_of_input bit_operations (Some s) c xs fits i false (omega arith)))
-            (All-append (Holds r) (gate_links (faulty n) (stuck_line n) (Some s) c.inputs c.gates) _
-            (gates_hold r (faulty n) (stuck_line n) (Some s) (bit_nets c (Some s) xs) (λ j x. at_line) (λ j p x. at_line) c.gates c.inputs lawful.ordered at_faulty
-            (λ i d l. net_value_of_gate bit_operations (Some s) c xs fits lawful i d false l))
-            (outputs_hold r n (bit_nets c None xs) (bit_nets c (Some s) xs) c.outputs 0 at_good at_faulty lawful.outputs_declared
-            (λ i l. let e : 0 + i ≡ i = omega arith in ap (λ x. bit_at r (difference n x)) e ∙ at_difference i l))),
-      )
+      (λ i d l. net_value_of_gate bit_operations None c xs fits lawful i d false l))
+      (tied_holds r s.level (stuck_line n) at_line)
+      (inputs_hold r n s xs at_line c.inputs 0 (λ i l. at_good i (omega arith) ∙ good_input i (omega arith)) (λ i l. at_faulty i (omega arith) ∙ net_value_of_input bit_operations (Some s) c xs fits i false (omega arith)))
+      (gates_hold r (faulty n) (stuck_line n) (Some s) (bit_nets c (Some s) xs) (λ j x. at_line) (λ j p x. at_line) c.gates c.inputs lawful.ordered at_faulty
+      (λ i d l. net_value_of_gate bit_operations (Some s) c xs fits lawful i d false l))
+      (outputs_hold r n (bit_nets c None xs) (bit_nets c (Some s) xs) c.outputs 0 at_good at_faulty lawful.outputs_declared (λ i l. let e : 0 + i ≡ i = omega arith in ap (λ x. bit_at r (difference n x)) e ∙ at_difference i l))
 
   pub canonical_length : length (canonical c s xs) ≡ variables c
   canonical_length =

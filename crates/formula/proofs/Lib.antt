@@ -10,4 +10,5 @@ pub mod Leading
 pub mod Sizes
 pub mod Standing
 pub mod Puts
+pub mod Ranged
 pub mod Loops

@@ -8,7 +8,7 @@ use Rattle.card.specs.Functions.{pin_count}
 use Rattle.card.specs.Netlists.{Netlist, Lawful, Ordered, PinsMatch, all_below, nets, pins_of}
 use Rattle.signal.specs.declared.line.Stuck.{Stuck}
 use Rattle.signal.specs.Walks.{sticks_net}
-use Rattle.formula.specs.Links.{copies, gate_links, input_links, link, links, output_links, pin_variables, tied}
+use Rattle.formula.specs.Links.{Link, copies, gate_links, input_links, link, links, output_links, pin_variables, tied}
 use Rattle.formula.specs.Variables.{faulty, good, stuck_line}
 use Rattle.formula.proofs.Ruled.{Fitted}
 
@@ -47,11 +47,12 @@ tied_fitted : (b : Bool) (x : ℕ) → Fitted (link (tied b) x [])
 tied_fitted true x = refl
 tied_fitted false x = refl
 
+-- what holds of each of a card's links, by their groups
+pub all_links : (P : Link → Type 0) (c : Netlist) (s : Stuck) → All P (gate_links good (stuck_line (nets c)) None c.inputs c.gates) → P (link (tied s.level) (stuck_line (nets c)) [])
+    → All P (input_links (nets c) (Some s) 0 c.inputs) → All P (gate_links (faulty (nets c)) (stuck_line (nets c)) (Some s) c.inputs c.gates) → All P (output_links (nets c) 0 c.outputs) → All P (links c s)
+all_links P c s goods line ins faults outs = All-append P _ _ goods (line, All-append P _ _ ins (All-append P _ _ faults outs))
+
 pub links_fitted : (c : Netlist) (s : Stuck) → Lawful c → All Fitted (links c s)
 links_fitted c s w =
-    All-append Fitted (gate_links good (stuck_line (nets c)) None c.inputs c.gates) _ (gates_fitted good (stuck_line (nets c)) None c.inputs c.gates w.pins_match) (
-      tied_fitted s.level (stuck_line (nets c)),
-      All-append Fitted (input_links (nets c) (Some s) 0 c.inputs) _ (inputs_fitted (nets c) (Some s) 0 c.inputs)
-          (All-append Fitted (gate_links (faulty (nets c)) (stuck_line (nets c)) (Some s) c.inputs c.gates) _ (gates_fitted (faulty (nets c)) (stuck_line (nets c)) (Some s) c.inputs c.gates w.pins_match)
-          (outputs_fitted (nets c) 0 c.outputs)),
-    )
+    all_links Fitted c s (gates_fitted good (stuck_line (nets c)) None c.inputs c.gates w.pins_match) (tied_fitted s.level (stuck_line (nets c))) (inputs_fitted (nets c) (Some s) 0 c.inputs)
+    (gates_fitted (faulty (nets c)) (stuck_line (nets c)) (Some s) c.inputs c.gates w.pins_match) (outputs_fitted (nets c) 0 c.outputs)

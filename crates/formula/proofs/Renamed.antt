@@ -5,6 +5,7 @@ use mathlib.Core.Bool.{beq, false≢true}
 use lib.ListN.{length-map}
 use Rattle.std.proofs.lemmas.List.{get_or-map}
 use Rattle.std.proofs.lemmas.Bool.{and_parts, ltb-true}
+use Rattle.std.specs.List.{list_all}
 use Rattle.solving.specs.Literals.{place, wants, in_range, all_in_range, places}
 use Rattle.solving.specs.Readings.{holds, satisfies}
 use Rattle.solving.specs.Settings.{Setting, at, worth, value}
@@ -16,8 +17,7 @@ use Rattle.formula.specs.Rows.{literal_of, over}
 
 -- every literal of every clause is one of v variables
 abbrev pub in_table : ℕ → List (List ℤ) → Bool
-in_table v [] = true
-in_table v (c ∷ cs) = all_in_range v c && in_table v cs
+in_table v cs = list_all (all_in_range v) cs
 
 -- the bits of variables in a reading, and in a setting
 abbrev pub read_bits : List Bool → List ℕ → List Bool

@@ -90,7 +90,7 @@ Fitted l = length l.pins ≡ pin_count l.function
 abbrev pub Holds : List Bool → Link → Type 0
 Holds r l = get_or r (pred l.out) false ≡ truth bit_operations l.function (read_bits r l.pins)
 
-fitted_in_table : (l : Link) → Fitted l → in_table (length (l.out ∷ l.pins)) (rows l.function) ≡ true
+pub fitted_in_table : (l : Link) → Fitted l → in_table (length (l.out ∷ l.pins)) (rows l.function) ≡ true
 fitted_in_table l h = ap (λ n. in_table (suc n) (rows l.function)) h ∙ row_in_table l.function
 
 pub link_means : (r : List Bool) (l : Link) → Fitted l → (Satisfies r (clauses_of l) → Holds r l) × (Holds r l → Satisfies r (clauses_of l))

@@ -1,16 +1,15 @@
 -- What a solver holds when clauses are given to it, one after another, and when it has been posed the formula of a fault.
-use Rattle.std.specs.Prelude.{ℕ, zero, suc, ◌≤◌, List, [], ◌∷◌, ℤ, pos, Some, None, Option}
-use Rattle.std.specs.List.{AllByRecursion}
+use Rattle.std.specs.Prelude.{ℕ, zero, suc, cond, List, [], ◌∷◌, ℤ, pos, Some, None, Option}
 use Rattle.card.specs.Netlists.{Netlist}
 use Rattle.signal.specs.declared.line.Stuck.{Stuck}
-use Rattle.solving.specs.Models.{Model, longer}
+use Rattle.solving.specs.Models.{Model, appendable, longer}
 use Rattle.formula.specs.Formulas.{formula_of}
 use Rattle.formula.specs.Variables.{faulty, good, variables}
 
--- several clauses more, if any
-abbrev pub more : Model → List (List ℤ) → Model
-more m [] = m
-more m (c ∷ cs) = more (longer m c) cs
+-- several clauses given one after another: the solver takes those for which it has the variables and the room
+abbrev pub given : Model → List (List ℤ) → Model
+given m [] = m
+given m (c ∷ cs) = given (cond (appendable m c) (longer m c) m) cs
 
 -- these clauses and no reading
 abbrev pub holding : ℕ → ℕ → List (List ℤ) → Model
@@ -29,10 +28,6 @@ posed c (Some s) m = holds_formula c s
 abbrev pub net_variable : Option Stuck → ℕ → ℕ → ℕ
 net_variable None n = good
 net_variable (Some s) n = faulty n
-
--- each is one of v variables
-abbrev pub AreVariables : ℕ → List ℕ → Type 0
-AreVariables v vs = AllByRecursion (λ x. (1 ≤ x) × (x ≤ v)) vs
 
 -- the literals v, v + 1 and so on, i of them
 abbrev pub rising : ℕ → ℕ → List ℤ

@@ -1,6 +1,6 @@
 // The encoder: gives any solver the formula of a line of a card that sticks, clause by clause in the order of its definition.
 // The solver refuses nothing on the way, since the formula is within its limits.
-ghost use Rattle.std.specs.Prelude.{◌≡◌, ◌≤◌};
+ghost use Rattle.std.specs.Prelude.{◌≡◌};
 ghost use Rattle.card.specs.Views.{netlist_of};
 ghost use Rattle.formula.specs.Links.{tied as tied_to};
 ghost use Rattle.formula.specs.Meanings.{Fits, LedByInputs, Means};
@@ -10,7 +10,7 @@ use crate::gates::put_gates;
 use crate::nets::put_inputs;
 use crate::outputs::{put_differences, put_outputs};
 use crate::put::put;
-use crate::variables::{line_variable, variable_count};
+use crate::variables::{Side, variable_count};
 use card::function::Function;
 use card::netlist::Card;
 use signal::line::Stuck;
@@ -30,17 +30,17 @@ pub fn encode<S: Solver>(solver: &mut S, card: &Card, stuck: Stuck)
     ensures formula_is_led { LedByInputs (netlist_of card.now) stuck }
     ensures formula_is_within_the_solvers_limits { Fits (netlist_of card.now) stuck }
 {
-    let inputs = card.inputs() as u16;
-    let nets = card.nets() as u16;
+    let good = Side::of(card, None);
+    let faulty = Side::of(card, Some(stuck));
+    let inputs = card.inputs();
     let gates = card.gates();
     let outputs = card.outputs();
-    let count = outputs.len() as u16;
-    let line = line_variable(nets);
-    let _ = solver.start(variable_count(card), inputs);
-    put_gates(solver, None, nets, inputs, gates);
+    let line = faulty.line();
+    let _ = solver.start(variable_count(card), inputs as u16);
+    put_gates(solver, good, inputs, gates);
     put(solver, tied(stuck.level), &[line]);
-    put_inputs(solver, stuck, nets, inputs);
-    put_gates(solver, Some(stuck), nets, inputs, gates);
-    put_outputs(solver, stuck, nets, outputs);
-    put_differences(solver, nets, count);
+    put_inputs(solver, faulty, inputs);
+    put_gates(solver, faulty, inputs, gates);
+    put_outputs(solver, faulty, outputs);
+    put_differences(solver, faulty, outputs.len());
 }

@@ -5,7 +5,7 @@ ghost use Rattle.formula.specs.Rows.{row_of};
 
 use card::function::Function;
 
-// The clauses of one function.
+// The clauses of one function. Numbers stand for literals, since a row of the table is written in signed codes here as it is in `Rows`.
 pub(crate) type Row = [[i8; 3]; 4];
 
 const ROWS: [Row; 10] = [

@@ -1,5 +1,5 @@
 -- What is known where a call was granted.
-use Rattle.std.proofs.Common.{◌≡◌, ℕ, ◌<◌, Bool, true, false, cond, ◌&&◌, eqb, ltb, length, Ok, Err, Result, refl, arith}
+use Rattle.std.proofs.Common.{◌≡◌, ℕ, ◌<◌, Bool, true, false, cond, ◌&&◌, eqb, ltb, length, Ok, Err, Result, refl}
 use Rattle.std.proofs.lemmas.Bool.{and_parts, eqb-false, false≢true, ltb-true}
 use Rattle.card.specs.Netlists.{Netlist}
 use Rattle.vectors.specs.Merging.{mergeable}
@@ -11,16 +11,13 @@ use Rattle.history.specs.Views.{View, is_open, is_taken, mark, most, vector_at}
 use Rattle.history.specs.declared.mark.Mark.{Mark}
 use Rattle.history.specs.declared.mark.Mark.TheVariants.{Open, Detected, Untestable}
 
-refused_granted : {T E : Type 0} (e : E) (t : T) → Err e ≡ Ok t → ⊥
-refused_granted e t q = let z : ◌≡◌ {A = ℕ} 0 1 = cc in omega arith
-
 -- a test that must pass, and one that must fail
 passed : {T E : Type 0} (b : Bool) (x : Result T E) (e : E) (t : T) → cond b x (Err e) ≡ Ok t → (b ≡ true) × (x ≡ Ok t)
 passed true x e t q = (refl, q)
-passed false x e t q = absurd (refused_granted e t q)
+passed false x e t q = absurd (cc)
 
 failed : {T E : Type 0} (b : Bool) (x : Result T E) (e : E) (t : T) → cond b (Err e) x ≡ Ok t → (b ≡ false) × (x ≡ Ok t)
-failed true x e t q = absurd (refused_granted e t q)
+failed true x e t q = absurd (cc)
 failed false x e t q = (refl, q)
 
 pub open_mark : (m : Mark) → is_open m ≡ true → m ≡ Open

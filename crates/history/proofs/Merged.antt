@@ -20,24 +20,24 @@ use Rattle.history.specs.Views.{View, blank, mark, vector_at}
 use Rattle.history.specs.declared.mark.Mark.{Mark}
 use Rattle.history.specs.declared.mark.Mark.TheVariants.{Open, Detected, Untestable}
 use Rattle.history.proofs.Granted.{Mergeable}
-use Rattle.history.proofs.Verdicts.{ListedFor, Verdicts, detected_untestable, not_open, same_number}
+use Rattle.history.proofs.Verdicts.{ListedFor, Verdicts, same_number}
 
 -- ---- marks
 
 old_number : (i j n : ℕ) (m : Mark) → renamed i j m ≡ Detected n → (q : ℕ) × (m ≡ Detected q) × (n ≡ renumbered i j q)
-old_number i j n Open e = absurd (not_open (Detected n) tt e)
+old_number i j n Open e = absurd (cc)
 old_number i j n (Detected q) e = (q, refl, sym (same_number (renumbered i j q) n e))
-old_number i j n Untestable e = absurd (detected_untestable n (sym e))
+old_number i j n Untestable e = absurd (cc)
 
 renamed_untestable : (i j : ℕ) (m : Mark) → renamed i j m ≡ Untestable → m ≡ Untestable
-renamed_untestable i j Open e = absurd (not_open Untestable tt e)
-renamed_untestable i j (Detected q) e = absurd (detected_untestable (renumbered i j q) e)
+renamed_untestable i j Open e = absurd (cc)
+renamed_untestable i j (Detected q) e = absurd (cc)
 renamed_untestable i j Untestable e = refl
 
 renamed_open : (i j : ℕ) (m : Mark) → renamed i j m ≡ Open → m ≡ Open
 renamed_open i j Open e = refl
-renamed_open i j (Detected q) e = absurd (not_open (Detected (renumbered i j q)) tt (sym e))
-renamed_open i j Untestable e = absurd (not_open Untestable tt (sym e))
+renamed_open i j (Detected q) e = absurd (cc)
+renamed_open i j Untestable e = absurd (cc)
 
 pub mark_renamed : (i j : ℕ) (ms : List Mark) (f : ℕ) → get_or (map (renamed i j) ms) f Open ≡ renamed i j (get_or ms f Open)
 mark_renamed i j ms f =

@@ -16,7 +16,7 @@ use Rattle.history.specs.Steps.{swept}
 use Rattle.history.specs.Views.{View, is_open, is_taken, mark, vector_at}
 use Rattle.history.specs.declared.mark.Mark.{Mark}
 use Rattle.history.specs.declared.mark.Mark.TheVariants.{Open, Detected, Untestable}
-use Rattle.history.proofs.Verdicts.{Decided, ListedFor, Verdicts, decided_within, detected_untestable, not_open, same_number}
+use Rattle.history.proofs.Verdicts.{Decided, ListedFor, Verdicts, decided_within, not_open, same_number}
 
 -- a vector that catches a fault by its number is shown by every filling
 catch_told : (c : Netlist) (f : ℕ) (x : Cells) (t : Option Stuck) → stuck_of c f ≡ t → caught_if c t x ≡ true → ShownByFillings c f x
@@ -80,7 +80,7 @@ module _ (c : Netlist) (v : View) (i : ℕ) where
         (decided_was f (Detected j) tt e);
     untestable = λ f e.
         ⊎_elim
-        (λ (t : (sweep_marks c v i f ≡ true) × (Detected i ≡ Untestable)). absurd (detected_untestable i t.1))
+        (λ (t : (sweep_marks c v i f ≡ true) × (Detected i ≡ Untestable)). absurd (let e = t.1 in cc))
         (λ (old : mark v f ≡ Untestable). s.untestable f old)
         (decided_was f Untestable tt e);
     settled = λ f a e. ⊎_elim (λ (k : AmpleSearch c f (swept i (Ok n))). k) (λ (k : AmplySearched c f h). s.settled f k (open_was f e)) a;

@@ -35,9 +35,6 @@ not_open m d e = subst Decided (sym e) d
 pub same_number : (i j : ℕ) → Detected i ≡ Detected j → i ≡ j
 same_number i j e = cc
 
-pub detected_untestable : (i : ℕ) → Detected i ≡ Untestable → ⊥
-detected_untestable i e = let z : ◌≡◌ {A = ℕ} 0 1 = cc in omega arith
-
 -- a decided mark stands in the list
 pub decided_within : (ms : List Mark) (f : ℕ) (m : Mark) → Decided m → get_or ms f Open ≡ m → f < length ms
 decided_within ms f m d e = ⊎_elim (λ h. h) (λ (h : length ms ≤ f). absurd (not_open m d (sym (get_or_past ms f Open h) ∙ e))) (cases_lt f (length ms))
@@ -150,14 +147,14 @@ module _ (c : Netlist) (h : History) (v : View) (t : KnownTicket) (budget : ℕ)
       let same : n ≡ i = same_number n i e in
       let last : get_or (v.vectors ++ (x ∷ [])) i blank ≡ x = get_or_push v.vectors x blank i same in
       (omega (arith, same, longer c v.vectors x), subst (ShownByFillings c f) (sym last) (record { stuck = stuck; is_the_faults_line = is; shown = tells.every_filling_of_a_shown_vector_shows_the_fault x refl })))
-      (λ e. absurd (detected_untestable n e))
+      (λ e. absurd (cc))
       (listed_more c v.vectors x)
       (omega (arith, able.room, longer c v.vectors x))
       (formed_more c v.vectors x s.formed (tells.a_shown_vector_is_in_form x refl))
       s
   entered_sound untestable tells =
       decided_sound c h v.marks v.vectors v.vectors t.fault Untestable t budget solved refl lt tt
-      (λ i e. absurd (detected_untestable i (sym e)))
+      (λ i e. absurd (cc))
       (λ e z line bits shows. tells.untestable_means_no_setting_shows refl bits (subst (λ (k : Stuck). Shows c k bits) (some_same z stuck (sym line ∙ is)) shows))
       (λ g i k. k)
       s.few

@@ -1,8 +1,9 @@
-// What is known of a fault.
+// What is known of a fault: nothing, a vector that shows it, or that no setting does.
+// A mark that tells something is never taken back.
 ghost use Rattle.std.specs.Prelude.{◌≡◌};
 ghost use Rattle.history.specs.Views.{is_detected, is_open, is_untestable};
 
-#[derive(Clone, Copy)]
+#[derive(Clone, Copy, PartialEq, Eq)]
 pub enum Mark {
     // Nothing yet.
     Open,
@@ -17,32 +18,20 @@ impl Mark {
     pub fn is_open(self) -> bool
         ensures tells_whether_it_is_open { result ≡ is_open self }
     {
-        match self {
-            Mark::Open => true,
-            Mark::Detected(_) => false,
-            Mark::Untestable => false,
-        }
+        matches!(self, Mark::Open)
     }
 
     // Whether a listed vector shows the fault.
     pub fn is_detected(self) -> bool
         ensures tells_whether_it_is_detected { result ≡ is_detected self }
     {
-        match self {
-            Mark::Open => false,
-            Mark::Detected(_) => true,
-            Mark::Untestable => false,
-        }
+        matches!(self, Mark::Detected(_))
     }
 
     // Whether no setting shows the fault.
     pub fn is_untestable(self) -> bool
         ensures tells_whether_it_is_untestable { result ≡ is_untestable self }
     {
-        match self {
-            Mark::Open => false,
-            Mark::Detected(_) => false,
-            Mark::Untestable => true,
-        }
+        matches!(self, Mark::Untestable)
     }
 }

@@ -1,4 +1,4 @@
-// Why a job refuses a call, one kind of refusal for each call, and the number that each is reported by.
+// Why a job refuses a call, one kind of refusal for each call; each case has the number that it is reported by.
 ghost use Rattle.std.specs.Prelude.{◌≡◌};
 ghost use Rattle.history.specs.declared.refusal.AddRefusal.TheVariants.{NotInForm as OutOfForm};
 ghost use Rattle.history.specs.declared.refusal.MergeRefusal.TheVariants.{OppositeBits as Opposed};
@@ -9,53 +9,40 @@ use vectors::merge_fault::MergeFault;
 
 #[derive(Clone, Copy)]
 pub enum TakeRefusal {
-    // The card has no fault of this number.
-    NoSuchFault,
-    // The fault is taken.
-    Taken,
-    // The fault is detected or untestable already.
-    Decided,
+    NoSuchFault = 9, // The card has no fault of this number.
+    Taken = 10, // The fault is taken.
+    Decided = 11, // The fault is detected or untestable already.
 }
 
 #[derive(Clone, Copy)]
 pub enum SearchRefusal {
-    // The ticket's fault is not taken in this job.
-    NotTaken,
-    // The ticket's fault is detected or untestable already.
-    Decided,
-    // The list holds as many vectors as it can.
-    Full,
+    NotTaken = 12, // The fault of the ticket to search with is not taken in this job.
+    Decided = 13, // It is detected or untestable already.
+    Full = 14, // The list has no place for a vector that may be found.
 }
 
 #[derive(Clone, Copy)]
 pub enum CloseRefusal {
-    // The ticket's fault is not taken in this job.
-    NotTaken,
+    NotTaken = 12, // The fault of the ticket to close is not taken in this job.
 }
 
 // Of a sweep, and of showing a vector.
 #[derive(Clone, Copy)]
 pub enum VectorRefusal {
-    // The list has no vector of this number.
-    NoSuchVector,
+    NoSuchVector = 15, // The list has no vector of this number.
 }
 
 #[derive(Clone, Copy)]
 pub enum AddRefusal {
-    // An input that the card does not have is fixed, or a free input has a bit.
-    NotInForm,
-    // The list holds as many vectors as it can.
-    Full,
+    NotInForm = 16, // An input that the card does not have is fixed, or a free input has a bit.
+    Full = 14, // The list holds as many vectors as it can.
 }
 
 #[derive(Clone, Copy)]
 pub enum MergeRefusal {
-    // The list has no vector of one of the two numbers.
-    NoSuchVector,
-    // The two numbers are one.
-    SameVector,
-    // Some input is fixed to opposite bits.
-    OppositeBits,
+    NoSuchVector = 15, // The list has no vector of one of the two numbers.
+    SameVector = 17, // The two numbers are one.
+    OppositeBits = 18, // Some input is fixed to opposite bits.
 }
 
 impl TakeRefusal {
@@ -63,11 +50,7 @@ impl TakeRefusal {
     pub fn number(self) -> u8
         ensures is_the_refusals_number { result ≡ take_number self }
     {
-        match self {
-            TakeRefusal::NoSuchFault => 9,
-            TakeRefusal::Taken => 10,
-            TakeRefusal::Decided => 11,
-        }
+        self as u8
     }
 }
 
@@ -76,11 +59,7 @@ impl SearchRefusal {
     pub fn number(self) -> u8
         ensures is_the_refusals_number { result ≡ search_number self }
     {
-        match self {
-            SearchRefusal::NotTaken => 12,
-            SearchRefusal::Decided => 13,
-            SearchRefusal::Full => 14,
-        }
+        self as u8
     }
 }
 
@@ -89,9 +68,7 @@ impl CloseRefusal {
     pub fn number(self) -> u8
         ensures is_the_refusals_number { result ≡ close_number self }
     {
-        match self {
-            CloseRefusal::NotTaken => 12,
-        }
+        self as u8
     }
 }
 
@@ -100,9 +77,7 @@ impl VectorRefusal {
     pub fn number(self) -> u8
         ensures is_the_refusals_number { result ≡ vector_number self }
     {
-        match self {
-            VectorRefusal::NoSuchVector => 15,
-        }
+        self as u8
     }
 }
 
@@ -111,10 +86,7 @@ impl AddRefusal {
     pub fn number(self) -> u8
         ensures is_the_refusals_number { result ≡ add_number self }
     {
-        match self {
-            AddRefusal::NotInForm => 16,
-            AddRefusal::Full => 14,
-        }
+        self as u8
     }
 }
 
@@ -123,11 +95,7 @@ impl MergeRefusal {
     pub fn number(self) -> u8
         ensures is_the_refusals_number { result ≡ merge_number self }
     {
-        match self {
-            MergeRefusal::NoSuchVector => 15,
-            MergeRefusal::SameVector => 17,
-            MergeRefusal::OppositeBits => 18,
-        }
+        self as u8
     }
 }
 

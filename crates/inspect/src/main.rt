@@ -4,40 +4,22 @@
 
 use card::alike::alike;
 use card::netlist::Card;
+use hex::{FromHexError, decode, encode};
 use reading::read::from_bytes;
 use reading::write::write;
 use std::alloc::{AllocError, Global};
 use std::io::{BufRead, BufReader};
 
-// The value of a hexadecimal digit.
-fn digit(byte: u8) -> Option<u8> {
-    match byte {
-        b'0'..=b'9' => Some(byte - b'0'),
-        b'a'..=b'f' => Some(byte - b'a' + 10),
-        _ => None,
-    }
-}
-
-// The bytes that a text of hexadecimal digits spells, two digits each.
+// The bytes that a text of hexadecimal digits spells, two digits each. A capital letter is no digit here.
 fn bytes_of(heap: Global, text: &str) -> Result<Option<Vec<u8>>, AllocError> {
-    let mut bytes = Vec::new(heap);
-    let mut high = None;
-    for byte in text.bytes() {
-        let Some(value) = digit(byte) else {
-            return Ok(None);
-        };
-        match high {
-            None => high = Some(value),
-            Some(first) => {
-                bytes.push((first & 15) * 16 + (value & 15))?;
-                high = None;
-            }
-        }
-    }
-    if high.is_some() {
+    if text.bytes().any(|byte| byte.is_ascii_uppercase()) {
         return Ok(None);
     }
-    Ok(Some(bytes))
+    match decode(heap, text) {
+        Ok(bytes) => Ok(Some(bytes)),
+        Err(FromHexError::OutOfMemory) => Err(AllocError),
+        Err(_) => Ok(None),
+    }
 }
 
 // Counts and canonical bytes of a good card.
@@ -45,11 +27,8 @@ fn describe(rt: &HostRuntime, card: &Card) -> anyhow::Result<()> {
     let inputs = card.inputs();
     let nets = card.nets();
     let outputs = card.outputs().len();
-    print!(rt; "card {inputs} inputs {nets} nets {outputs} outputs ")?;
-    for byte in write(rt.alloc(), card)?.iter() {
-        print!(rt; "{byte:02x}")?;
-    }
-    println!(rt)?;
+    let bytes = encode(rt.alloc(), write(rt.alloc(), card)?)?;
+    println!(rt; "card {inputs} inputs {nets} nets {outputs} outputs {bytes}")?;
     Ok(())
 }
 
@@ -62,9 +41,7 @@ fn open(rt: &HostRuntime, text: &str) -> anyhow::Result<Option<Card>> {
     match from_bytes(rt.alloc(), bytes.as_slice()) {
         Ok(card) => Ok(Some(card)),
         Err(fault) => {
-            let number = fault.number();
-            let offset = fault.offset();
-            println!(rt; "card refused {number} at {offset}")?;
+            println!(rt; "{fault}")?;
             Ok(None)
         }
     }

@@ -3,5 +3,4 @@ pub mod Tabled
 pub mod Sweeping
 pub mod Merging
 pub mod Reaching
-pub mod Counting
 pub mod Rows

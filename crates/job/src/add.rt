@@ -1,9 +1,6 @@
 // Add: a vector that the caller brings is put last.
-ghost use Rattle.std.specs.Prelude.{◌≡◌, is_ok, if◌then◌else◌};
-ghost use Rattle.vectors.specs.Vectors.{holding};
-ghost use Rattle.history.specs.Changing.{adding};
-ghost use Rattle.history.specs.Granting.{adds};
-ghost use Rattle.job.specs.Tables.{card_of, view_of};
+ghost use Rattle.history.specs.Steps.{added};
+ghost use Rattle.job.specs.Tables.{Led};
 
 use crate::open::MOST;
 use crate::table::Table;
@@ -11,10 +8,9 @@ use history::refusal::AddRefusal;
 use vectors::vector::Vector;
 
 impl Table {
+    #[tactic(auto, using(crate::proofs::Tabled::all_listed, crate::proofs::Tabled::added_last))]
     pub(crate) fn add(&mut self, care: u32, value: u32) -> Result<usize, AddRefusal>
-        ensures granted_or_refused { result ≡ adds (card_of self.old) (view_of self.old) care value }
-        ensures added_or_unchanged { view_of self.new ≡ (if is_ok result then adding (view_of self.old) (holding care value) else view_of self.old) }
-        ensures card_stays { card_of self.new ≡ card_of self.old }
+        ensures leads_on { Led self.old (added care value result) self.new }
     {
         let inputs = self.faults.card().inputs();
         let vector = Vector::new(inputs, care, value)?;

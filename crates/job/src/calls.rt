@@ -23,6 +23,9 @@ use solving::Solved;
 use std::alloc::{AllocError, Global};
 use ways::Answering;
 
+// The law follows from the type of `Job`, and stands with each call as what its caller is promised.
+// That the card stays is said of before and after, and a type speaks of one moment, so it stands with each call too.
+#[tactic(auto, using(crate::proofs::Reaching::led_on, crate::proofs::Reaching::stands))]
 impl Job {
     // A new job on a card. It asks for all memory that any later call needs.
     pub fn open(heap: Global, card: Card) -> Result<Job, AllocError>

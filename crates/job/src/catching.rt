@@ -12,6 +12,7 @@ use vectors::vector::Vector;
 pub(crate) fn catches_fault(faults: &FaultModel, fault: usize, vector: &Vector) -> bool
     ensures tells_whether_the_vector_catches_it { result ≡ catches_fault (modelled faults.now) fault (cells_of vector.now) }
 {
+    // A match: after `is_ok_and` the goal stays open.
     match faults.line(fault) {
         Ok(stuck) => catches(faults.card(), stuck, vector),
         Err(_) => false,

@@ -9,8 +9,9 @@ use asking::outcome::Outcome;
 use history::mark::Mark;
 
 impl Table {
+    #[tactic(auto, using(crate::proofs::Tabled::entered_shown, crate::proofs::Tabled::entered_untestable))]
     pub(crate) fn enter(&mut self, fault: usize, outcome: Outcome)
-        requires a_fault { fault < vec_len self.old.marks }
+        requires a_fault { fault < vec_len self.old.states }
         requires room { vec_len self.old.vectors < 512 }
         ensures enters_what_was_found { view_of self.new ≡ entering (view_of self.old) fault (finding_of outcome) }
         ensures card_stays { card_of self.new ≡ card_of self.old }
@@ -19,9 +20,9 @@ impl Table {
             Outcome::Shown(vector) => {
                 let number = self.vectors.len();
                 self.vectors.push_reserved(vector);
-                self.marks[fault] = Mark::Detected(number);
+                self.states[fault].mark = Mark::Detected(number);
             }
-            Outcome::Untestable => self.marks[fault] = Mark::Untestable,
+            Outcome::Untestable => self.states[fault].mark = Mark::Untestable,
             Outcome::Unknown => {}
         }
     }

@@ -1,9 +1,10 @@
 // Merge: one listed vector takes the fixed cells of another, which leaves the list, and every mark names its vector by the new number.
-ghost use Rattle.std.specs.Prelude.{◌≡◌, map, is_ok, if◌then◌else◌, vec_len};
-ghost use Rattle.history.specs.Changing.{merging, renamed as renamed_mark, renumbered};
-ghost use Rattle.history.specs.Granting.{merges};
-ghost use Rattle.job.specs.Tables.{card_of, granted, view_of};
+ghost use Rattle.std.specs.Prelude.{◌≡◌, map};
+ghost use Rattle.history.specs.Changing.{renamed as renamed_mark, renumbered};
+ghost use Rattle.history.specs.Steps.{merged as merged_step};
+ghost use Rattle.job.specs.Tables.{granted, Led, mark_of, taken_of};
 
+use crate::shown::Marked;
 use crate::table::Table;
 use history::mark::Mark;
 use history::refusal::MergeRefusal;
@@ -17,32 +18,22 @@ fn renumber(into: usize, gone: usize, number: usize) -> usize
     if now > gone { now - 1 } else { now }
 }
 
-// The mark with the new number of its vector.
-fn rename(into: usize, gone: usize, mark: Mark) -> Mark
-    ensures names_the_vector_anew { result ≡ renamed_mark into gone mark }
+// Every mark names its vector by the new number.
+fn rename_all(states: &mut [Marked], into: usize, gone: usize)
+    ensures renames_each { map mark_of states.new ≡ map (renamed_mark into gone) (map mark_of states.old) }
+    ensures leaves_the_flags { map taken_of states.new ≡ map taken_of states.old }
 {
-    match mark {
-        Mark::Open => Mark::Open,
-        Mark::Detected(number) => Mark::Detected(renumber(into, gone, number)),
-        Mark::Untestable => Mark::Untestable,
-    }
-}
-
-// Renames every mark.
-fn rename_all(marks: &mut Vec<Mark>, into: usize, gone: usize)
-    ensures renames_each { marks.new.items ≡ map (renamed_mark into gone) marks.old.items }
-    ensures keeps_their_number { vec_len marks.new ≡ vec_len marks.old }
-{
-    for fault in 0..marks.len() {
-        marks[fault] = rename(into, gone, marks[fault]);
+    for state in states.iter_mut() {
+        if let Mark::Detected(number) = state.mark {
+            state.mark = Mark::Detected(renumber(into, gone, number));
+        }
     }
 }
 
 impl Table {
+    #[tactic(auto, using(crate::proofs::Tabled::all_listed))]
     pub(crate) fn merge(&mut self, into: usize, gone: usize) -> Result<(), MergeRefusal>
-        ensures granted_or_refused { granted result ≡ merges (view_of self.old) into gone }
-        ensures merged_or_unchanged { view_of self.new ≡ (if is_ok result then merging (view_of self.old) into gone else view_of self.old) }
-        ensures card_stays { card_of self.new ≡ card_of self.old }
+        ensures leads_on { Led self.old (merged_step into gone (granted result)) self.new }
     {
         let count = self.vectors.len();
         if into >= count || gone >= count {
@@ -54,7 +45,7 @@ impl Table {
         let both = merged(&self.vectors[into], &self.vectors[gone])?;
         self.vectors[into] = both;
         let _gone = self.vectors.remove(gone);
-        rename_all(&mut self.marks, into, gone);
+        rename_all(&mut self.states, into, gone);
         Ok(())
     }
 }

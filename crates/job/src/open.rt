@@ -4,6 +4,7 @@ ghost use Rattle.card.specs.Views.{netlist_of};
 ghost use Rattle.history.specs.Views.{new_view};
 ghost use Rattle.job.specs.Tables.{card_of, view_of};
 
+use crate::shown::Marked;
 use crate::table::Table;
 use card::netlist::Card;
 use faults::model::FaultModel;
@@ -21,13 +22,15 @@ impl Table {
     {
         let faults = FaultModel::open(heap, card)?;
         let count = faults.fault_count();
-        let marks = vec![in heap; Mark::Open; count]?;
-        let taken = vec![in heap; false; count]?;
+        let untouched = Marked {
+            mark: Mark::Open,
+            taken: false,
+        };
+        let states = vec![in heap; untouched; count]?;
         let vectors = Vec::with_capacity(heap, MOST)?;
         Ok(Table {
             faults,
-            marks,
-            taken,
+            states,
             vectors,
         })
     }

@@ -12,12 +12,13 @@ use vectors::vector::Vector;
 pub(crate) fn outputs_of(card: &Card, vector: &Vector) -> Vector
     ensures shows_the_outputs { ShowsOutputs (netlist_of card.now) (cells_of vector.now) (cells_of result) }
 {
+    // Lent, since the tester's call for C fills such a buffer, and answers how many characters it wrote.
     let mut characters = [0; 32];
     let Ok(count) = expected_outputs(card, vector, &mut characters) else {
-        unreachable()
+        unreachable!()
     };
-    match row(&characters[0..count], count) {
-        Some(outputs) => outputs,
-        None => unreachable(),
-    }
+    let Some(outputs) = row(&characters[..count], count) else {
+        unreachable!()
+    };
+    outputs
 }

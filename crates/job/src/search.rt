@@ -14,6 +14,7 @@ use solving::Solved;
 use ways::Answering;
 
 impl Table {
+    #[tactic(auto, using(crate::proofs::Tabled::all_listed, crate::proofs::Tabled::full_answer))]
     pub(crate) fn search<S: Answering>(
         &mut self,
         ticket: &Ticket,
@@ -35,7 +36,7 @@ impl Table {
             return Err(SearchRefusal::Full);
         }
         let Ok(stuck) = self.faults.line(fault) else {
-            return Err(SearchRefusal::NotTaken);
+            unreachable!()
         };
         let asked = ask(solver, self.faults.card(), stuck, budget);
         self.enter(fault, asked.outcome);

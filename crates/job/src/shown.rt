@@ -1,4 +1,8 @@
 // What a job shows of itself.
+ghost use Rattle.std.specs.Prelude.{◌≡◌, map, count_by};
+ghost use Rattle.history.specs.Views.{is_detected, is_open, is_untestable};
+ghost use Rattle.job.specs.Tables.{mark_of, taken_of};
+
 use history::mark::Mark;
 use vectors::vector::Vector;
 
@@ -23,4 +27,22 @@ pub struct Counts {
     pub detected: usize,
     pub untestable: usize,
     pub taken: usize,
+}
+
+impl Counts {
+    // The counts of faults of which these are the marks.
+    #[tactic(auto, using(crate::proofs::Tabled::counted))]
+    pub(crate) fn of(marks: &[Marked]) -> Counts
+        ensures counts_the_open { result.«open» ≡ count_by is_open (map mark_of marks.now) }
+        ensures counts_the_detected { result.detected ≡ count_by is_detected (map mark_of marks.now) }
+        ensures counts_the_untestable { result.untestable ≡ count_by is_untestable (map mark_of marks.now) }
+        ensures counts_the_taken { result.taken ≡ count_by (λ b. b) (map taken_of marks.now) }
+    {
+        Counts {
+            open: marks.iter().filter(|m| m.mark.is_open()).count(),
+            detected: marks.iter().filter(|m| m.mark.is_detected()).count(),
+            untestable: marks.iter().filter(|m| m.mark.is_untestable()).count(),
+            taken: marks.iter().filter(|m| m.taken).count(),
+        }
+    }
 }

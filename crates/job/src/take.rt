@@ -1,9 +1,8 @@
 // Take and close: the right to work on a fault is given to one holder at a time.
-ghost use Rattle.std.specs.Prelude.{◌≡◌, ◌<◌, true, is_ok, IfOk, IfErr, if◌then◌else◌, vec_len};
-ghost use Rattle.history.specs.Changing.{closing, taking};
-ghost use Rattle.history.specs.Granting.{closes, takes};
+ghost use Rattle.std.specs.Prelude.{◌≡◌, ◌<◌, true, IfOk, IfErr, vec_len};
+ghost use Rattle.history.specs.Steps.{closed, took};
 ghost use Rattle.history.specs.Views.{is_open, is_taken, mark};
-ghost use Rattle.job.specs.Tables.{card_of, closed_with, granted, view_of};
+ghost use Rattle.job.specs.Tables.{closed_with, granted, known_as, Led, view_of};
 
 use crate::table::Table;
 use crate::ticket::{Back, Ticket};
@@ -13,33 +12,25 @@ impl Table {
     // Whether the fault is taken; a fault that the card does not have is not.
     pub(crate) fn holds(&self, fault: usize) -> bool
         ensures tells_whether_it_is_taken { result ≡ is_taken (view_of self.now) fault }
-        ensures a_taken_fault_has_a_flag { result ≡ true → fault < vec_len self.now.taken }
+        ensures a_taken_fault_has_a_flag { result ≡ true → fault < vec_len self.now.states }
     {
-        if fault < self.taken.len() {
-            self.taken[fault]
-        } else {
-            false
-        }
+        self.states.get(fault).is_some_and(|state| state.taken)
     }
 
     // Whether the fault has no verdict yet.
     pub(crate) fn is_open(&self, fault: usize) -> bool
         ensures tells_whether_it_is_open { result ≡ is_open (mark (view_of self.now) fault) }
     {
-        if fault < self.marks.len() {
-            self.marks[fault].is_open()
-        } else {
-            true
-        }
+        self.states
+            .get(fault)
+            .is_none_or(|state| state.mark.is_open())
     }
 
     pub(crate) fn take(&mut self, fault: usize) -> Result<Ticket, TakeRefusal>
-        ensures granted_or_refused { granted result ≡ takes (card_of self.old) (view_of self.old) fault }
         ensures ticket_is_for_the_fault { IfOk result (λ t. t.fault ≡ fault) }
-        ensures taken_or_unchanged { view_of self.new ≡ (if is_ok result then taking (view_of self.old) fault else view_of self.old) }
-        ensures card_stays { card_of self.new ≡ card_of self.old }
+        ensures leads_on { Led self.old (took fault (granted result)) self.new }
     {
-        if fault >= self.marks.len() {
+        if fault >= self.states.len() {
             return Err(TakeRefusal::NoSuchFault);
         }
         if self.holds(fault) {
@@ -48,15 +39,13 @@ impl Table {
         if !self.is_open(fault) {
             return Err(TakeRefusal::Decided);
         }
-        self.taken[fault] = true;
+        self.states[fault].taken = true;
         Ok(Ticket::issue(fault))
     }
 
     pub(crate) fn close(&mut self, ticket: Ticket) -> Result<(), Back>
-        ensures granted_or_refused { closed_with result ≡ closes (view_of self.old) ticket.fault }
         ensures a_refusal_hands_the_ticket_back { IfErr result (λ back. back.ticket ≡ ticket) }
-        ensures closed_or_unchanged { view_of self.new ≡ (if is_ok result then closing (view_of self.old) ticket.fault else view_of self.old) }
-        ensures card_stays { card_of self.new ≡ card_of self.old }
+        ensures leads_on { Led self.old (closed (known_as ticket true) (closed_with result)) self.new }
     {
         let fault = ticket.fault();
         if !self.holds(fault) {
@@ -65,7 +54,7 @@ impl Table {
                 ticket,
             });
         }
-        self.taken[fault] = false;
+        self.states[fault].taken = false;
         let _fault = ticket.spend();
         Ok(())
     }

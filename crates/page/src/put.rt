@@ -1,15 +1,14 @@
 // Opening a page, putting bytes behind its text, and ending it.
 ghost use Rattle.std.specs.Prelude.{◌≡◌, [], ◌∷◌, ◌++◌, length, is_some, IfSome};
 ghost use Rattle.page.specs.Pages.{fresh, putting};
-ghost use Rattle.page.specs.Views.{filled_of, lent};
+ghost use Rattle.page.specs.Views.{filled_of};
 
 use crate::buffer::Page;
 
 impl<'a> Page<'a> {
     // A page without text, over the whole buffer.
     pub fn new(buffer: &'a mut [u8]) -> Page<'a>
-        ensures is_fresh { filled_of result ≡ fresh buffer.old }
-        ensures holds_the_lent_buffer { lent result ≡ buffer.entry.ghost_name }
+        ensures is_fresh { filled_of result ≡ fresh buffer.entry.ghost_name buffer.old }
     {
         Page {
             buffer,
@@ -21,7 +20,6 @@ impl<'a> Page<'a> {
     // Puts one byte behind the text.
     pub fn byte(&mut self, byte: u8)
         ensures puts_the_byte { filled_of self.new ≡ putting (byte ∷ []) (filled_of self.old) }
-        ensures holds_the_lent_buffer { lent self.new ≡ lent self.old }
     {
         if self.len < self.buffer.len() {
             self.buffer[self.len] = byte;
@@ -34,7 +32,6 @@ impl<'a> Page<'a> {
     // Puts bytes behind the text.
     pub fn put(&mut self, bytes: &[u8])
         ensures puts_the_bytes { filled_of self.new ≡ putting bytes.now (filled_of self.old) }
-        ensures holds_the_lent_buffer { lent self.new ≡ lent self.old }
     {
         for byte in bytes {
             self.byte(*byte);
@@ -52,7 +49,7 @@ impl<'a> Page<'a> {
             len,
             whole,
         } = self;
-        if whole { Some(len) } else { None }
+        whole.then_some(len)
     }
 }
 

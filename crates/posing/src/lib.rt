@@ -21,12 +21,9 @@ fn pose<S: Solver>(solver: &mut S)
 fn read<S: Solver>(solver: &S) -> Option<(bool, bool)>
     ensures are_the_readings_bits { (bits : List Bool) → (S.Solver.model solver.now).variables ≡ 2 → (S.Solver.model solver.now).reading ≡ Some bits → result ≡ Some (slice_index_or bits 0 false, slice_index_or bits 1 false) }
 {
-    let first = solver.value(1);
-    let second = solver.value(2);
-    match (first, second) {
-        (Ok(a), Ok(b)) => Some((a, b)),
-        _ => None,
-    }
+    let first = solver.value(1).ok()?;
+    let second = solver.value(2).ok()?;
+    Some((first, second))
 }
 
 // Two bits that differ; none only if the budget is below 6.

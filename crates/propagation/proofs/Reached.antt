@@ -1,5 +1,5 @@
 -- Unit steps in any order, one after another, and what their end says of closure.
-use Rattle.std.proofs.Common.{◌≡◌, ℕ, zero, suc, Bool, true, false, List, [], ◌∷◌, length, ℤ, Some, None, Option, sym, refl, ap, ◌∙◌, true≢false}
+use Rattle.std.proofs.Common.{◌≡◌, ℕ, zero, suc, Bool, true, false, List, [], ◌∷◌, length, ℤ, Some, None, Ok, Err, OnErr, is_ok, Option, Result, sym, refl, ap, ◌∙◌, true≢false}
 use mathlib.Core.Bool.{false≢true}
 use Rattle.solving.specs.Settings.{Setting, made}
 use Rattle.solving.specs.declared.state.State.{State}
@@ -11,6 +11,11 @@ use Rattle.solving.proofs.Places.{none_some, some_inj}
 use Rattle.solving.proofs.Closures.{rests}
 use Rattle.solving.proofs.Ordering.{any_order}
 use Rattle.propagation.specs.Following.{Closes}
+
+-- what holds of an error, where there is one
+pub on_err : {T E P : Type 0} (r : Result T E) → OnErr r P → is_ok r ≡ false → P
+on_err (Ok x) h e = absurd (true≢false e)
+on_err (Err x) h e = h
 
 pub reach_on : (cs : List (List ℤ)) (a b d : Setting) → Reaches cs a b → Reaches cs b d → Reaches cs a d
 reach_on cs a b d stop s = s

@@ -2,4 +2,5 @@ pub mod Stacks
 pub mod Scanning
 pub mod Trails
 pub mod Occurrences
+pub mod Clauses
 pub mod Following

@@ -2,9 +2,8 @@
 -- the last place before it where the same literal stands.
 use Rattle.std.specs.Prelude.{◌≡◌, ℕ, zero, suc, ◌+◌, ◌*◌, ◌<◌, ◌≤◌, cond, List, ◌∷◌, length, get_or, ℤ, pos, ◌==◌, nat_le, nat_lt, slice_index, slice_index_or}
 use Rattle.solving.specs.Literals.{place, wants}
-use Rattle.propagation.specs.Scanning.{clauses_from, Ends}
+use Rattle.propagation.specs.Scanning.{Ends}
 use Rattle.propagation.specs.declared.occurrence.Occurrence.{Occurrence}
-use Rattle.propagation.specs.declared.clauses.Clauses.{Clauses}
 
 -- the number of a literal
 abbrev pub key : ℤ → ℕ
@@ -64,9 +63,3 @@ pub record Listed (row : List ℤ) (ends lasts : List ℕ) (places : List Occurr
   pub linked : Linked row (length lasts) places (length row)
   pub spanned : Spanned ends places (length ends)
   pub paired : Paired row places (length row)
-
-abbrev pub listed : Clauses → Type 0
-listed c = Listed c.literals.now c.ends.now c.lasts.now c.places.now
-
-abbrev pub clauses_of : Clauses → List (List ℤ)
-clauses_of c = clauses_from c.literals.now 0 c.ends.now

@@ -4,6 +4,7 @@
 
 mod clauses;
 pub mod close;
+mod conflict;
 mod fill;
 pub mod follow;
 mod index;
@@ -16,6 +17,8 @@ mod stack;
 pub mod trail;
 
 pub use clauses::Clauses;
+pub use conflict::Conflict;
 pub use index::Index;
 pub use occurrence::Occurrence;
+pub use scan::start_of;
 pub use stack::Stack;

@@ -6,21 +6,13 @@ ghost use Rattle.propagation.specs.Occurrences.{nowhere, literal_at, first_other
 use crate::literal::key_of;
 use crate::occurrence::Occurrence;
 
-// No literal stands anywhere yet.
-fn clear(lasts: &mut [u16])
-    ensures all_are_empty { (k : ℕ) → k < length lasts.new → slice_index lasts.new k ≡ 0 }
-{
-    for k in 0..lasts.len() {
-        lasts[k] = 0;
-    }
-}
-
 // Puts a place at the head of a literal's list, and answers what stood there.
 fn put(lasts: &mut [u16], k: usize, p: u16) -> u16
     requires fits { p < 9216 }
     ensures was_there { result ≡ slice_index lasts.old k }
     ensures is_there { lasts.new ≡ slice_set lasts.old k (p + 1) }
 {
+    // A test and an index: `get_mut` says nothing of what the slice ends as.
     if k >= lasts.len() {
         return 0;
     }
@@ -73,6 +65,7 @@ fn list_clause(
     ensures spanned { (p : ℕ) → from ≤ p → p < to → ((get_or places.new p nowhere).from ≡ from) × ((get_or places.new p nowhere).to ≡ to) }
     ensures kept { (p : ℕ) → p < from → slice_index_or places.new p nowhere ≡ slice_index_or places.old p nowhere }
 {
+    // By number: it is the number of a place that is listed.
     for p in from..to {
         let before = put(lasts, key_of(literals[p]), p as u16);
         let first = literal_at(literals, to, first_other(from, p));
@@ -94,10 +87,10 @@ pub fn list(literals: &[i16], ends: &[usize], lasts: &mut [u16], places: &mut [O
     requires space { length literals.now ≤ length places.old }
     ensures listed { Listed literals.now ends.now lasts.new places.new }
 {
-    clear(lasts);
+    // No literal stands anywhere yet.
+    lasts.fill(0);
     let mut from = 0;
-    for c in 0..ends.len() {
-        let to = ends[c];
+    for &to in ends {
         list_clause(literals, lasts, places, from, to);
         from = to;
     }

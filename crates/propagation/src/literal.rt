@@ -7,7 +7,7 @@ ghost use Rattle.propagation.specs.Occurrences.{key, against};
 
 use solving::State;
 
-// Variable j stands at place j - 1. No branch goes by the sign, which no processor could foresee.
+// Variable j stands at place j - 1. Here no branch goes by the sign, which no processor could foresee.
 pub fn place_of(literal: i16) -> usize
     ensures is_the_variables_place { result ≡ place literal }
     ensures is_small { result ≤ 32768 }
@@ -35,6 +35,7 @@ pub(crate) fn negated_key_of(literal: i16) -> usize
 fn bit_at(values: &[Option<bool>], j: usize) -> Option<bool>
     ensures is_what_stands_there { result ≡ at values.now j }
 {
+    // By a test and an index: with `get` and `unwrap_or` the processor foresees fewer branches of the innermost loop.
     if j < values.len() {
         values[j]
     } else {
@@ -45,10 +46,7 @@ fn bit_at(values: &[Option<bool>], j: usize) -> Option<bool>
 fn worth_of(have: Option<bool>, want: bool) -> Option<bool>
     ensures compares_the_bits { result ≡ worth have want }
 {
-    match have {
-        None => None,
-        Some(b) => Some(b == want),
-    }
+    have.map(|bit| bit == want)
 }
 
 // Open, or whether the literal is true.
@@ -77,8 +75,5 @@ pub(crate) fn join(have: Option<bool>, literal: i16, state: State) -> State
 pub fn bit_of(value: Option<bool>) -> bool
     ensures is_the_bit { result ≡ bit_of value }
 {
-    match value {
-        None => false,
-        Some(b) => b,
-    }
+    value.unwrap_or(false)
 }

@@ -6,7 +6,7 @@ pub struct Occurrence {
     pub from: u16,
     // and ends before this one.
     pub to: u16,
-    // One past the last place before this one where the same literal stands; 0 where it stands at none.
+    // One past the last place before this one where the same literal stands; 0 where it stands at none, as an option is twice as wide.
     pub before: u16,
     // The literals at the first and the second place of the clause other than this one; where the clause has no such place,
     // a literal that is false in every setting. In a clause of three places they are all that matters once this one is false.

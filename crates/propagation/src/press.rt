@@ -1,24 +1,24 @@
 // One clause under a setting: what it comes to, and its lone literal made true where it has one.
-ghost use Rattle.std.specs.Prelude.{◌≡◌, ◌+◌, ◌-◌, ◌≤◌, [], ◌∷◌, length, take, drop};
+ghost use Rattle.std.specs.Prelude.{◌≡◌, ◌+◌, ◌-◌, ◌≤◌, [], ◌∷◌, length, take, drop, is_ok};
 ghost use Rattle.solving.specs.Settings.{open_in};
 ghost use Rattle.solving.specs.States.{state_of};
 ghost use Rattle.propagation.specs.Stacks.{held, room};
 ghost use Rattle.propagation.specs.Following.{Pressed};
 
+use crate::conflict::Conflict;
 use crate::literal::{join, value_of};
 use crate::occurrence::Occurrence;
 use crate::stack::Stack;
 use crate::trail::make;
 use solving::State;
 
-// What the clause between two places of the row comes to. A place after which nothing else matters ends the look.
-fn state_of(literals: &[i16], values: &[Option<bool>], from: usize, to: usize) -> State
-    requires inside { to ≤ length literals.now }
-    ensures is_the_clauses_state { result ≡ state_of values.now (take (to - from) (drop from literals.now)) }
+// What a clause comes to. A literal after which nothing else matters ends the look.
+fn state_of(clause: &[i16], values: &[Option<bool>]) -> State
+    ensures is_the_clauses_state { result ≡ state_of values.now clause.now }
 {
     let mut state = State::Broken;
-    for i in from..to {
-        state = join(value_of(values, literals[i]), literals[i], state);
+    for &literal in clause {
+        state = join(value_of(values, literal), literal, state);
         if let State::Other = state {
             return State::Other;
         }
@@ -46,30 +46,30 @@ fn state_beside(literals: &[i16], values: &[Option<bool>], place: Occurrence) ->
     let from = place.from as usize;
     let to = place.to as usize;
     if to > from + 3 {
-        return state_of(literals, values, from, to);
+        return state_of(&literals[from..to], values);
     }
     pair_state(values, place.first, place.second)
 }
 
-// Looks at the clause of a place, and makes its lone literal true if it has one. False where the clause is false throughout.
+// Looks at the clause of a place, and makes its lone literal true if it has one.
 pub fn press(
     literals: &[i16],
     values: &mut [Option<bool>],
     trail: &mut Stack<i16>,
     place: Occurrence,
-) -> bool
+) -> Result<(), Conflict>
     requires inside { place.to ≤ length literals.now }
     requires paired { place.to ≤ place.from + 3 → state_of values.old (place.first ∷ place.second ∷ []) ≡ state_of values.old (take (place.to - place.from) (drop place.from literals.now)) }
     requires space { trail.old.len + open_in (length values.old) values.old ≤ room trail.old }
-    ensures presses { Pressed (take (place.to - place.from) (drop place.from literals.now)) values.old (held trail.old) result values.new (held trail.new) }
+    ensures presses { Pressed (take (place.to - place.from) (drop place.from literals.now)) values.old (held trail.old) (is_ok result) values.new (held trail.new) }
     ensures space { room trail.new ≡ room trail.old }
 {
     match state_beside(literals, values, place) {
-        State::Other => true,
-        State::Broken => false,
+        State::Other => Ok(()),
+        State::Broken => Err(Conflict),
         State::Lone(literal) => {
             make(values, trail, literal);
-            true
+            Ok(())
         }
     }
 }

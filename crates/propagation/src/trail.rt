@@ -7,7 +7,8 @@ ghost use Rattle.propagation.specs.Stacks.{held, room};
 use crate::literal::place_of;
 use crate::stack::Stack;
 
-// Makes a literal true, and puts it on the trail.
+// Makes a literal true, and puts it on the trail. The two are no one struct: the setting outlives the search, as the reading that
+// is found, and the trail is lent for one search, or for one setting of many.
 pub fn make(values: &mut [Option<bool>], trail: &mut Stack<i16>, literal: i16)
     requires inside { place literal < length values.old }
     requires space { trail.old.len < room trail.old }

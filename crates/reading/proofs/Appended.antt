@@ -1,6 +1,5 @@
 -- Bytes written one element after the other, and the writing of a card in its three parts.
-use Rattle.std.proofs.Common.{◌≡◌, ℕ, zero, suc, ◌+◌, ◌<◌, ◌≤◌, List, [], ◌∷◌, ◌++◌, map, length, get_or, take, replicate, sym, refl, ap, ◌∙◌, append_assoc}
-use Rattle.std.proofs.lemmas.List.{take_all, take_more, flat_map_more}
+use Rattle.std.proofs.Common.{◌≡◌, ℕ, zero, suc, List, [], ◌∷◌, ◌++◌, map, replicate, sym, refl, ap, ◌∙◌, append_assoc}
 use Rattle.std.specs.List.{flat_map}
 use Rattle.card.specs.declared.gate.Gate.{Gate}
 use Rattle.reading.specs.declared.command.Command.{Command}
@@ -9,15 +8,6 @@ use Rattle.reading.specs.Commands.{spelled}
 use Rattle.card.specs.Netlists.{Netlist}
 use Rattle.reading.specs.Rules.{all_spelled}
 use Rattle.reading.specs.Writing.{commands_of, gates_written, outputs_written, written}
-
--- one element more is written
-pub joined_on : {X : Type 0} (f : X → List ℕ) (old now more : List ℕ) (xs : List X) (i : ℕ) (d : X) → i < length xs → now ≡ old ++ flat_map f (take i xs) → more ≡ now ++ f (get_or xs i d) → more ≡ old ++ flat_map f (take (i + 1) xs)
-joined_on f old now more xs i d h p q =
-    q ∙ ap (λ z. z ++ f (get_or xs i d)) p ∙ flat_map_more f old (take i xs) (get_or xs i d) ∙ ap (λ z. old ++ flat_map f z) (sym (take_more xs i d h))
-
--- all are written
-pub joined_end : {X : Type 0} (f : X → List ℕ) (old now : List ℕ) (xs : List X) (i : ℕ) → length xs ≤ i → now ≡ old ++ flat_map f (take i xs) → now ≡ old ++ flat_map f xs
-joined_end f old now xs i h p = p ∙ ap (λ z. old ++ flat_map f z) (take_all i xs h)
 
 pub spelled_append : (cs bs : List Command) → all_spelled (cs ++ bs) ≡ all_spelled cs ++ all_spelled bs
 spelled_append [] bs = refl
@@ -52,10 +42,10 @@ module _ (c : Netlist) where
       ∙ ap (λ z. gates_part ++ z) (spelled_map AddOutput c.outputs))
 
   -- the bytes after each part
-  pub written_in_parts : (b0 b1 b2 b3 b4 : List ℕ) (k : ℕ) (gs : List Gate) (os : List ℕ) → b0 ≡ [] → b1 ≡ b0 ++ replicate k 0x20 → b2 ≡ b1 ++ gates_written gs → b3 ≡ b2 ++ outputs_written os → b4 ≡ b3 ++ (0x7f ∷ []) → k ≡ c.inputs → gs ≡ c.gates → os ≡ c.outputs → b4 ≡ written c
-  written_in_parts b0 b1 b2 b3 b4 k gs os p0 p1 p2 p3 p4 q0 q1 q2 =
+  pub written_in_parts : (b1 b2 b3 b4 : List ℕ) (k : ℕ) (gs : List Gate) (os : List ℕ) → b1 ≡ replicate k 0x20 → b2 ≡ b1 ++ gates_written gs → b3 ≡ b2 ++ outputs_written os → b4 ≡ b3 ++ (0x7f ∷ []) → k ≡ c.inputs → gs ≡ c.gates → os ≡ c.outputs → b4 ≡ written c
+  written_in_parts b1 b2 b3 b4 k gs os p1 p2 p3 p4 q0 q1 q2 =
       p4 ∙ ap (λ z. z ++ (0x7f ∷ []))
-      (p3 ∙ ap (λ z. z ++ outputs_written os) (p2 ∙ ap (λ z. z ++ gates_written gs) (p1 ∙ ap (λ z. z ++ replicate k 0x20) p0))
+      (p3 ∙ ap (λ z. z ++ outputs_written os) (p2 ∙ ap (λ z. z ++ gates_written gs) p1)
       ∙ ap (λ z. (replicate z 0x20 ++ gates_written gs) ++ outputs_written os) q0
       ∙ ap (λ z. (inputs_part ++ gates_written z) ++ outputs_written os) q1
       ∙ ap (λ z. (inputs_part ++ gates_part) ++ outputs_written z) q2

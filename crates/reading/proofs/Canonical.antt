@@ -15,15 +15,6 @@ use Rattle.reading.proofs.Pushes.{not_stands}
 use Rattle.reading.proofs.Judged.{kept_rules}
 use Rattle.reading.proofs.Ruled.{agree}
 
-never_end_input : AddInput ≡ End → ⊥
-never_end_input e = let z : ◌≡◌ {A = ℕ} 0 1 = cc in omega (arith, z)
-
-never_end_gate : (g : Gate) → AddGate g ≡ End → ⊥
-never_end_gate g e = let z : ◌≡◌ {A = ℕ} 0 1 = cc in omega (arith, z)
-
-never_end_output : (n : ℕ) → AddOutput n ≡ End → ⊥
-never_end_output n e = let z : ◌≡◌ {A = ℕ} 0 1 = cc in omega (arith, z)
-
 -- commands after commands
 keep_append : (cs bs : List Command) (d : Netlist) → AllKeepRules d cs → AllKeepRules (declared_by d cs) bs → AllKeepRules d (cs ++ bs)
 keep_append [] bs d k l = l
@@ -37,7 +28,7 @@ declared_append (c ∷ cs) bs d = declared_append cs bs (adds d c)
 keep_inputs : (j : ℕ) (d : Netlist) → length d.gates ≡ 0 → d.inputs + j ≤ 32 → AllKeepRules d (replicate j AddInput)
 keep_inputs zero d g h = tt
 keep_inputs (suc j) d g h = (
-  never_end_input,
+  (λ same. cc),
   tt,
   kept_rules d AddInput (record {
     not_late = not_from_true (eqb (length d.gates) 0) (eq-eqb (length d.gates) 0 g);
@@ -67,7 +58,7 @@ keep_gates (g ∷ gs) d f =
     let len = length-append d.gates (g ∷ []) in
     let fit = f.fits in
     let z : nets d + 0 ≡ nets d = omega arith in (
-      never_end_gate g,
+      (λ same. cc),
       f.pins 0 g (omega arith),
       kept_rules d (AddGate g) (record {
         not_late = refl;
@@ -102,7 +93,7 @@ keep_outputs (o ∷ os) d f =
     let all = length-append d.outputs (o ∷ os) in
     let fit = f.fits in
     let p = and_parts (ltb o (nets d)) (all_below (nets d) os) f.declared in (
-      never_end_output o,
+      (λ same. cc),
       tt,
       kept_rules d (AddOutput o) (record {
         not_late = refl;

@@ -47,7 +47,7 @@ module _ (d : Netlist) (c : Command) (at : ℕ) where
       ⊎_elim (λ s. says_at (Operand (Undeclared at)) e s.1 (record { first = record { broken = s.0; none_before = λ q l. unbroken d c q (λ _. a.0) (λ _. b.0) (λ z. absurd (omega (arith, z, l))) (λ z. absurd (omega (arith, z, l))) (λ z. absurd (omega (arith, z, l))) }; place = refl })) (λ f.
       ⊎_elim (λ s. says_at (NamedTwice at) e s.1 (record { first = record { broken = s.0; none_before = λ q l. unbroken d c q (λ _. a.0) (λ _. b.0) (λ _. f.0) (λ z. absurd (omega (arith, z, l))) (λ z. absurd (omega (arith, z, l))) }; place = refl })) (λ g.
       ⊎_elim (λ s. says_at (Incomplete at) e s.1 (record { first = record { broken = s.0; none_before = λ q l. unbroken d c q (λ _. a.0) (λ _. b.0) (λ _. f.0) (λ _. g.0) (λ z. absurd (omega (arith, z, l))) }; place = refl })) (λ h.
-      let z : ◌≡◌ {A = ℕ} 0 1 = let r = h.1 in cc in absurd (omega (arith, z)))
+      let r = h.1 in absurd (cc))
       (stopped (incomplete d c) _ _ _ g.1))
       (stopped (repeated d c) _ _ _ f.1))
       (stopped (undeclared d c) _ _ _ b.1))

@@ -1,6 +1,5 @@
 pub mod Standing
 pub mod Steps
-pub mod Adding
 pub mod Decoded
 pub mod Judged
 pub mod Ruled

@@ -128,9 +128,9 @@ module _ (n : ℕ) (later : Later n) (d : Netlist) (rest : List ℕ) (at : ℕ) 
       (λ e. let u = ltb-false 1 (length rest) e in absurd (omega arith))
 
   take_command : (c : Command) (tail : List ℕ) → WellFormed c → rest ≡ spelled c ++ tail → fault_of d c at ≡ None → Outcome d at rest (onward next d (accepted d c rest at))
-  take_command AddInput tail w s f = go_on AddInput tail (λ e. let z : ◌≡◌ {A = ℕ} 0 1 = cc in omega (arith, z)) w s f (omega arith)
-  take_command (AddGate g) tail w s f = go_on (AddGate g) tail (λ e. let z : ◌≡◌ {A = ℕ} 0 1 = cc in omega (arith, z)) w s f (omega arith)
-  take_command (AddOutput o) tail w s f = go_on (AddOutput o) tail (λ e. let z : ◌≡◌ {A = ℕ} 0 1 = cc in omega (arith, z)) w s f (omega arith)
+  take_command AddInput tail w s f = go_on AddInput tail (λ same. cc) w s f (omega arith)
+  take_command (AddGate g) tail w s f = go_on (AddGate g) tail (λ same. cc) w s f (omega arith)
+  take_command (AddOutput o) tail w s f = go_on (AddOutput o) tail (λ same. cc) w s f (omega arith)
   take_command End tail w s f = at_end tail s (keeps_rules d End at f)
 
   by_fault : (c : Command) (tail : List ℕ) → WellFormed c → rest ≡ spelled c ++ tail → (q : Option CardFault) → fault_of d c at ≡ q → Outcome d at rest (onward next d (judged d c rest at q))
@@ -161,14 +161,14 @@ RefusedBy bs f = Refused bs (refusal_number f) (refusal_offset f)
 module _ (bs : List ℕ) (o : ℕ) (e : Netlist) (tail : List ℕ) (at : (rest : List ℕ) → tail ≡ rest → Begins bs o e rest) where
   accepts_by : (d : Netlist) (r : Result Netlist CardFault) → r ≡ Ok d → Finish e o tail r → Accepted bs d
   accepts_by d r p (f_end t k) = let s : e ≡ d = cc in subst (Accepted bs) s (record { at = o; begins = at (0x7f ∷ []) t; complete = k })
-  accepts_by d r p (f_unknown b rest t h) = let z : ◌≡◌ {A = ℕ} 0 1 = cc in absurd (omega (arith, z))
-  accepts_by d r p (f_ended t) = let z : ◌≡◌ {A = ℕ} 0 1 = cc in absurd (omega (arith, z))
-  accepts_by d r p (f_cut b rest t h l) = let z : ◌≡◌ {A = ℕ} 0 1 = cc in absurd (omega (arith, z))
-  accepts_by d r p (f_broken c rest f w t b h) = let z : ◌≡◌ {A = ℕ} 0 1 = cc in absurd (omega (arith, z))
-  accepts_by d r p (f_trailing b rest t k) = let z : ◌≡◌ {A = ℕ} 0 1 = cc in absurd (omega (arith, z))
+  accepts_by d r p (f_unknown b rest t h) = absurd (cc)
+  accepts_by d r p (f_ended t) = absurd (cc)
+  accepts_by d r p (f_cut b rest t h l) = absurd (cc)
+  accepts_by d r p (f_broken c rest f w t b h) = absurd (cc)
+  accepts_by d r p (f_trailing b rest t k) = absurd (cc)
 
   refuses_by : (f : CardFault) (r : Result Netlist CardFault) → r ≡ Err f → Finish e o tail r → RefusedBy bs f
-  refuses_by f r p (f_end t k) = let z : ◌≡◌ {A = ℕ} 0 1 = cc in absurd (omega (arith, z))
+  refuses_by f r p (f_end t k) = absurd (cc)
   refuses_by f r p (f_unknown b rest t h) = let s : Unknown o ≡ f = cc in subst (RefusedBy bs) s (unknown (at (b ∷ rest) t) h)
   refuses_by f r p (f_ended t) = let s : Ended o ≡ f = cc in subst (RefusedBy bs) s (ended (at [] t))
   refuses_by f r p (f_cut b rest t h l) = let s : Operand (Cut o) ≡ f = cc in subst (RefusedBy bs) s (cut (at (b ∷ rest) t) h l)

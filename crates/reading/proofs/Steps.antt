@@ -12,7 +12,7 @@ use Rattle.reading.specs.Reading.{Next, more, done, bad, Stepped, accepted, comm
 
 -- a chain of tests that ends in None passed each of them
 pub passed : {X : Type 0} (b : Bool) (x : X) (r : Option X) → cond b (Some x) r ≡ None → (b ≡ false) × (r ≡ None)
-passed true x r e = let z : ◌≡◌ {A = ℕ} 0 1 = cc in absurd (omega arith)
+passed true x r e = absurd (cc)
 passed false x r e = (refl, e)
 
 -- a chain of tests that ends in a fault stopped at one of them
@@ -82,10 +82,10 @@ module _ (rest : List ℕ) (at : ℕ) (d : Netlist) where
 
 pub stepped_some : (n : Next) (o : Option ℕ) (size : ℕ) (d e : Netlist) → o ≡ Some size → Stepped n (Ok o) d e → n ≡ more e size
 stepped_some n (Some x) size d e p h = let f : x ≡ size = cc in h ∙ ap (more e) f
-stepped_some n None size d e p h = let z : ◌≡◌ {A = ℕ} 0 1 = cc in absurd (omega arith)
+stepped_some n None size d e p h = absurd (cc)
 
-pub stepped_none : (n : Next) (o : Option ℕ) (d e : Netlist) → o ≡ None → Stepped n (Ok o) d e → (n ≡ done) × (e ≡ d)
-stepped_none n (Some x) d e p h = let z : ◌≡◌ {A = ℕ} 0 1 = cc in absurd (omega arith)
+pub stepped_none : (n : Next) (o : Option ℕ) (d e : Netlist) → ((size : ℕ) → o ≡ Some size → ⊥) → Stepped n (Ok o) d e → (n ≡ done) × (e ≡ d)
+stepped_none n (Some x) d e p h = absurd (p x refl)
 stepped_none n None d e p h = h
 
 -- the reader's loop: `rest` is what is left of the bytes from the offset on

@@ -2,7 +2,6 @@
 // Nothing here knows the card so far; the rules that do are tested afterwards.
 ghost use Rattle.std.specs.Prelude.{◌≡◌, ℕ, ◌+◌, ◌*◌, ◌<◌, ◌≤◌, length, IfOk, OnOk};
 ghost use Rattle.reading.specs.Commands.{size_of};
-ghost use Rattle.card.specs.Functions.{function_of};
 ghost use Rattle.card.specs.Netlists.{nets_read};
 ghost use Rattle.reading.specs.Reading.{command_at, net_at, operands_at};
 
@@ -10,24 +9,6 @@ use crate::command::Command;
 use crate::fault::*;
 use card::function::Function;
 use card::gate::{Gate, Operands};
-
-// The function of a gate command's last digit.
-fn function_of(digit: u8) -> Function
-    ensures is_the_digits_function { result ≡ function_of digit }
-{
-    match digit {
-        0 => Function::Ida,
-        1 => Function::And2,
-        2 => Function::Or2,
-        3 => Function::Xor2,
-        4 => Function::Inva,
-        5 => Function::Nand2,
-        6 => Function::Nor2,
-        7 => Function::Xnor2,
-        8 => Function::Zero,
-        _ => Function::One,
-    }
-}
 
 // The net number that stands at a place of the command, high byte first.
 fn net_at(rest: &[u8], place: usize, at: usize) -> Result<u16, OperandFault>
@@ -38,7 +19,7 @@ fn net_at(rest: &[u8], place: usize, at: usize) -> Result<u16, OperandFault>
     if place + 1 >= rest.len() {
         return Err(OperandFault::Cut(at));
     }
-    Ok(256 * (rest[place] as u16) + rest[place + 1] as u16)
+    Ok(u16::from_be_bytes([rest[place], rest[place + 1]]))
 }
 
 // The operands that follow a gate command's first byte.
@@ -66,13 +47,13 @@ pub fn decode(rest: &[u8], at: usize) -> Result<Command, CardFault>
     ensures is_the_command_or_its_fault { result ≡ command_at rest.now at }
     ensures lies_within_the_bytes { IfOk result (λ c. size_of c ≤ length rest.now) }
 {
-    if rest.len() == 0 {
+    let Some(first) = rest.first() else {
         return Err(CardFault::Ended(at));
-    }
-    match rest[0] {
+    };
+    match *first {
         0x20 => Ok(Command::AddInput),
         byte @ 0x30..=0x39 => {
-            let function = function_of(byte - 0x30);
+            let function = Function::try_from(byte - 0x30).unwrap();
             let operands = operands_at(rest, function.pins(), at)?;
             Ok(Command::AddGate(Gate { function, operands }))
         }

@@ -1,10 +1,11 @@
 // Why card bytes are refused: the rule that is broken and where, an operand's fault inside the card's.
 // Every case has its number, which the programs print and the tester's call answers.
-ghost use Rattle.std.specs.Prelude.{◌≡◌, ℕ, ◌≤◌};
+ghost use Rattle.std.specs.Prelude.{◌≡◌, ℕ, ◌≤◌, ◌++◌, Some, codes, decimal};
 ghost use Rattle.reading.specs.Refusals.{operand_number, operand_offset, refusal_number, refusal_offset};
 ghost use Rattle.reading.specs.declared.fault.CardFault.TheVariants.{Memory, Operand};
 
 use std::alloc::AllocError;
+use std::fmt;
 
 // A fault of the operands of one command, at the offset of that command.
 #[derive(Clone, Copy)]
@@ -83,14 +84,14 @@ impl CardFault {
         ensures is_the_refusals_offset { result ≡ refusal_offset self }
     {
         match self {
-            CardFault::Unknown(at) => at,
-            CardFault::Ended(at) => at,
             CardFault::Operand(fault) => fault.offset(),
-            CardFault::LateInput(at) => at,
-            CardFault::Limit(at) => at,
-            CardFault::NamedTwice(at) => at,
-            CardFault::Incomplete(at) => at,
-            CardFault::Trailing(at) => at,
+            CardFault::Unknown(at)
+            | CardFault::Ended(at)
+            | CardFault::LateInput(at)
+            | CardFault::Limit(at)
+            | CardFault::NamedTwice(at)
+            | CardFault::Incomplete(at)
+            | CardFault::Trailing(at) => at,
             CardFault::Memory => 0,
         }
     }
@@ -109,5 +110,15 @@ impl From<AllocError> for CardFault {
 
     fn from(_error: AllocError) -> CardFault {
         CardFault::Memory
+    }
+}
+
+impl fmt::Display for CardFault {
+    ghost output = { λ e. Some (codes "card refused " ++ decimal (refusal_number e) ++ codes " at " ++ decimal (refusal_offset e)) };
+
+    fn fmt<W: fmt::Write>(&self, f: &mut fmt::Formatter<W>) -> fmt::Result {
+        let number = self.number();
+        let offset = self.offset();
+        write!(f, "card refused {number} at {offset}")
     }
 }

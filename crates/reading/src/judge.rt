@@ -12,7 +12,7 @@ use crate::draft::Draft;
 use crate::fault::*;
 use card::gate::Operands;
 
-// Whether each operand is a net declared already.
+// Refuses an operand that is no net declared already.
 fn all_declared(operands: Operands, nets: usize, at: usize) -> Result<(), OperandFault>
     ensures refuses_an_undeclared_operand { MatchResult result (λ _. all_below nets (nets_read operands) ≡ true) (λ e. (e ≡ Undeclared at) × (all_below nets (nets_read operands) ≡ false)) }
 {
@@ -28,38 +28,26 @@ fn all_declared(operands: Operands, nets: usize, at: usize) -> Result<(), Operan
     }
 }
 
-// Whether a net is among the outputs.
-fn is_named(outputs: &[u16], net: u16) -> bool
-    ensures says_whether_it_stands_there { result ≡ stands net outputs.now }
-{
-    for output in outputs {
-        if net == *output {
-            return true;
-        }
-    }
-    false
-}
-
 // The first rule that the command breaks, if any.
 pub fn judge(draft: &Draft, command: Command, at: usize) -> Result<(), CardFault>
     ensures refuses_the_first_broken_rule { MatchResult result (λ _. fault_of (draft_of draft.now) command at ≡ None) (λ e. fault_of (draft_of draft.now) command at ≡ Some e) }
 {
-    let nets = draft.inputs as usize + draft.gate_count;
+    let nets = draft.inputs as usize + draft.gates.len();
     match command {
-        Command::AddInput if draft.gate_count != 0 => Err(CardFault::LateInput(at)),
+        Command::AddInput if !draft.gates.is_empty() => Err(CardFault::LateInput(at)),
         Command::AddInput if draft.inputs >= 32 => Err(CardFault::Limit(at)),
         Command::AddGate(_) if nets >= 256 => Err(CardFault::Limit(at)),
-        Command::AddOutput(_) if draft.output_count >= 32 => Err(CardFault::Limit(at)),
-        Command::End if draft.inputs == 0 || draft.output_count == 0 => Err(CardFault::Incomplete(
-            at,
-        )),
+        Command::AddOutput(_) if draft.outputs.is_full() => Err(CardFault::Limit(at)),
+        Command::End if draft.inputs == 0 || draft.outputs.is_empty() => {
+            Err(CardFault::Incomplete(at))
+        }
         Command::AddGate(gate) => {
             all_declared(gate.operands, nets, at)?;
             Ok(())
         }
         Command::AddOutput(net) => {
             all_declared(Operands::One(net), nets, at)?;
-            if is_named(&draft.outputs[0..draft.output_count], net) {
+            if draft.outputs.contains(&net) {
                 return Err(CardFault::NamedTwice(at));
             }
             Ok(())

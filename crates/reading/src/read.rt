@@ -15,8 +15,7 @@ use crate::decode::decode;
 use crate::draft::Draft;
 use crate::fault::*;
 use crate::judge::judge;
-use card::function::Function;
-use card::gate::{Gate, Operands};
+use arrayvec::ArrayVec;
 use card::netlist::Card;
 use std::alloc::{AllocError, Global};
 
@@ -25,16 +24,10 @@ impl Draft {
     fn new() -> Draft
         ensures declares_nothing { draft_of result ≡ nothing }
     {
-        let unused = Gate {
-            function: Function::Zero,
-            operands: Operands::None,
-        };
         Draft {
             inputs: 0,
-            gates: [unused; 256],
-            gate_count: 0,
-            outputs: [0; 32],
-            output_count: 0,
+            gates: ArrayVec::new(),
+            outputs: ArrayVec::new(),
         }
     }
 
@@ -46,16 +39,8 @@ impl Draft {
     {
         match command {
             Command::AddInput => self.inputs += 1,
-            Command::AddGate(gate) => {
-                let at = self.gate_count;
-                self.gates[at] = gate;
-                self.gate_count = at + 1;
-            }
-            Command::AddOutput(net) => {
-                let at = self.output_count;
-                self.outputs[at] = net;
-                self.output_count = at + 1;
-            }
+            Command::AddGate(gate) => self.gates.push(gate),
+            Command::AddOutput(net) => self.outputs.push(net),
             Command::End => {}
         }
     }
@@ -69,36 +54,26 @@ fn step(draft: &mut Draft, rest: &[u8], at: usize) -> Result<Option<usize>, Card
 {
     let command = decode(rest, at)?;
     judge(draft, command, at)?;
-    if let Command::End = command {
-        if rest.len() > 1 {
-            return Err(CardFault::Trailing(at + 1));
-        }
-        return Ok(None);
-    }
-    draft.add(command);
-    Ok(Some(command.size()))
-}
-
-// All commands, up to the end of the card.
-fn fill(draft: &mut Draft, bytes: &[u8]) -> Result<(), CardFault>
-    requires { draft_of draft.old ≡ nothing }
-    ensures holds_what_the_bytes_say { MatchResult result (λ _. reading bytes.now ≡ Ok (draft_of draft.new)) (λ e. reading bytes.now ≡ Err e) }
-{
-    let mut at = 0;
-    loop {
-        match step(draft, &bytes[at..], at)? {
-            Some(size) => at += size,
-            None => return Ok(()),
+    match command {
+        Command::End if rest.len() > 1 => Err(CardFault::Trailing(at + 1)),
+        Command::End => Ok(None),
+        _ => {
+            draft.add(command);
+            Ok(Some(command.size()))
         }
     }
 }
 
-// The bytes' commands, gathered in a draft.
+// The bytes' commands, up to the end of the card, gathered in a draft.
+// The offset is counted by hand: each command says how many bytes it takes, and the faults name it.
 fn gather(bytes: &[u8]) -> Result<Draft, CardFault>
     ensures holds_what_the_bytes_say { MatchResult result (λ draft. reading bytes.now ≡ Ok (draft_of draft)) (λ e. reading bytes.now ≡ Err e) }
 {
     let mut draft = Draft::new();
-    fill(&mut draft, bytes)?;
+    let mut at = 0;
+    while let Some(size) = step(&mut draft, &bytes[at..], at)? {
+        at += size;
+    }
     Ok(draft)
 }
 
@@ -107,12 +82,13 @@ fn card_of(heap: Global, draft: &Draft) -> Result<Card, AllocError>
     requires { Lawful (draft_of draft.now) }
     ensures holds_the_draft { IfOk result (λ card. netlist_of card ≡ draft_of draft.now) }
 {
-    let gates = Vec::from_slice(heap, &draft.gates[0..draft.gate_count])?;
-    let outputs = Vec::from_slice(heap, &draft.outputs[0..draft.output_count])?;
+    let gates = Vec::from_slice(heap, draft.gates.as_slice())?;
+    let outputs = Vec::from_slice(heap, draft.outputs.as_slice())?;
     Ok(Card::assemble(draft.inputs, gates, outputs))
 }
 
 // The card that the bytes spell, by value.
+#[tactic(auto, using(crate::proofs::Ruled::agree))]
 pub fn from_bytes(heap: Global, bytes: &[u8]) -> Result<Card, CardFault>
     ensures accepted_bytes_spell_the_card { IfOk result (λ card. Accepted bytes.now (netlist_of card)) }
     ensures a_refusal_names_the_first_broken_rule_and_its_place { IfErr result (λ e. (e ≢ Memory) → Refused bytes.now (refusal_number e) (refusal_offset e)) }
@@ -126,6 +102,7 @@ pub fn from_bytes(heap: Global, bytes: &[u8]) -> Result<Card, CardFault>
 }
 
 // The card that the bytes spell, written whole over a card that the caller lends.
+#[tactic(auto, using(crate::proofs::Ruled::agree))]
 pub fn read(heap: Global, bytes: &[u8], card: &mut Card) -> Result<(), CardFault>
     ensures accepted_bytes_spell_the_card_held { OnOk result (Accepted bytes.now (netlist_of card.new)) }
     ensures a_refusal_names_the_first_broken_rule_and_its_place { IfErr result (λ e. (e ≢ Memory) → Refused bytes.now (refusal_number e) (refusal_offset e)) }

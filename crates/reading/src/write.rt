@@ -1,6 +1,6 @@
 // Writing a card: its canonical bytes, which read back to the same card.
 ghost use Rattle.std.specs.Prelude.{◌≡◌, ℕ, ◌/◌, ◌%◌, [], ◌∷◌, ◌++◌, replicate, IfOk, Ok, OnOk};
-ghost use Rattle.reading.specs.Commands.{spelled};
+ghost use Rattle.reading.specs.Commands.{net_bytes, spelled};
 ghost use Rattle.reading.specs.Reading.{reading};
 ghost use Rattle.reading.specs.Rules.{Accepted};
 ghost use Rattle.card.specs.Views.{netlist_of};
@@ -11,34 +11,24 @@ use card::gate::{Gate, Operands};
 use card::netlist::Card;
 use std::alloc::{AllocError, Global};
 
-// The high byte of a net number.
-fn high(net: u16) -> u8
-    ensures is_the_high_byte { result ≡ net / 256 }
+// A net number, high byte first.
+fn write_net(bytes: &mut Vec<u8>, net: u16) -> Result<(), AllocError>
+    ensures appends_the_nets_bytes { OnOk result (bytes.new.items ≡ bytes.old.items ++ net_bytes net) }
 {
-    (net / 256) as u8
-}
-
-// The low byte of a net number.
-fn low(net: u16) -> u8
-    ensures is_the_low_byte { result ≡ net % 256 }
-{
-    (net % 256) as u8
+    bytes.extend_from_slice(&net.to_be_bytes())
 }
 
 fn write_gate(bytes: &mut Vec<u8>, gate: Gate) -> Result<(), AllocError>
     ensures appends_the_gate_command { OnOk result (bytes.new.items ≡ bytes.old.items ++ spelled (AddGate gate)) }
 {
-    let command = 0x30 + gate.function.number();
+    bytes.push(0x30 + gate.function.number())?;
     match gate.operands {
-        Operands::None => bytes.extend_from_slice(&[command])?,
-        Operands::One(only) => bytes.extend_from_slice(&[command, high(only), low(only)])?,
-        Operands::Two(first, second) => bytes.extend_from_slice(&[
-            command,
-            high(first),
-            low(first),
-            high(second),
-            low(second),
-        ])?,
+        Operands::None => {}
+        Operands::One(only) => write_net(bytes, only)?,
+        Operands::Two(first, second) => {
+            write_net(bytes, first)?;
+            write_net(bytes, second)?;
+        }
     }
     Ok(())
 }
@@ -46,19 +36,11 @@ fn write_gate(bytes: &mut Vec<u8>, gate: Gate) -> Result<(), AllocError>
 fn write_output(bytes: &mut Vec<u8>, net: u16) -> Result<(), AllocError>
     ensures appends_the_output_command { OnOk result (bytes.new.items ≡ bytes.old.items ++ spelled (AddOutput net)) }
 {
-    bytes.extend_from_slice(&[0x40, high(net), low(net)])?;
-    Ok(())
+    bytes.push(0x40)?;
+    write_net(bytes, net)
 }
 
-fn write_inputs(bytes: &mut Vec<u8>, inputs: usize) -> Result<(), AllocError>
-    ensures appends_an_input_command_for_each { OnOk result (bytes.new.items ≡ bytes.old.items ++ replicate inputs 0x20) }
-{
-    for _i in 0..inputs {
-        bytes.push(0x20)?;
-    }
-    Ok(())
-}
-
+// Apart from `write_outputs`: one function over both would be handed the writing of one element, and its law with it.
 fn write_gates(bytes: &mut Vec<u8>, gates: &[Gate]) -> Result<(), AllocError>
     ensures appends_the_gates { OnOk result (bytes.new.items ≡ bytes.old.items ++ gates_written gates.now) }
 {
@@ -83,8 +65,7 @@ pub fn write(heap: Global, card: &Card) -> Result<Vec<u8>, AllocError>
     ensures reads_back_to_the_card { IfOk result (λ bytes. reading bytes.items ≡ Ok (netlist_of card.now)) }
     ensures spells_the_card { IfOk result (λ bytes. Accepted bytes.items (netlist_of card.now)) }
 {
-    let mut bytes = Vec::new(heap);
-    write_inputs(&mut bytes, card.inputs())?;
+    let mut bytes = vec![in heap; 0x20; card.inputs()]?;
     write_gates(&mut bytes, card.gates())?;
     write_outputs(&mut bytes, card.outputs())?;
     bytes.push(0x7f)?;

@@ -1,5 +1,5 @@
 -- How long a sheet can be: at most 77 bytes for a vector, 22 for a fault that is not detected, and a short head.
-use Rattle.std.proofs.Common.{◌≡◌, ℕ, suc, ◌+◌, ◌*◌, ◌^◌, ◌<◌, ◌≤◌, cond, List, [], ◌∷◌, ◌++◌, length, codes, decimal, count_by, ap, ◌∙◌, arith, length-append}
+use Rattle.std.proofs.Common.{◌≡◌, ℕ, suc, ◌+◌, ◌*◌, ◌^◌, ◌<◌, ◌≤◌, cond, List, [], ◌∷◌, ◌++◌, length, codes, count_by, ap, ◌∙◌, arith, length-append}
 use Rattle.std.proofs.lemmas.Fmt.{length-decimal-le}
 use Rattle.std.proofs.lemmas.List.{length-map}
 use Rattle.std.proofs.lemmas.List.Sums.{count_by-le-length, sum_by-cons}
@@ -15,12 +15,9 @@ use Rattle.report.specs.Limits.{NoMoreVectorsThanDetectedFaults, sheet_room}
 use Rattle.report.specs.Lines.{ended, fault_line, fault_rows, head_line, head_of, numbered, refusal_text, sheet_of, sheet_text, vector_line, vector_rows}
 use Rattle.report.proofs.Putting.{ended_append}
 
-short : (k n : ℕ) → 0 < k → n < 10 ^ k → n < 2 ^ 64 → length (decimal n) ≤ k
-short k n a b c = length-decimal-le k n a b c
-
 vector_long : (c : Netlist) (n : ℕ) (v : Cells) → Lawful c → n < 1000 → length (vector_line c n v) ≤ 76
 vector_long c n v law h =
-    let d = short 3 n (omega arith) (omega arith) (omega arith) in
+    let d = length-decimal-le 3 n (omega arith) (omega arith) (omega arith) in
     let k : length (printed c.inputs v) ≡ c.inputs = length-map (start c.inputs v) character_of ∙ length_cells v 0 c.inputs in
     let m = length_characters c v in
     let ki = law.inputs_fit in
@@ -28,7 +25,7 @@ vector_long c n v law h =
     simp length-append (omega (arith, d, k, m, ki, mi))
 
 fault_long : (n : ℕ) (w : List ℕ) → n < 10000 → length (fault_line n w) ≤ 11 + length w
-fault_long n w h = let d = short 4 n (omega arith) (omega arith) (omega arith) in simp length-append (omega (arith, d))
+fault_long n w h = let d = length-decimal-le 4 n (omega arith) (omega arith) (omega arith) in simp length-append (omega (arith, d))
 
 vectors_short : (c : Netlist) → Lawful c → (n : ℕ) (vs : List Cells) → n + length vs ≤ 1000 → length (ended (numbered (vector_rows c) n vs)) ≤ 77 * length vs
 vectors_short c law n [] h = omega arith
@@ -56,10 +53,10 @@ faults_short n (Untestable ∷ ms) h =
 
 head_long : (f d u o : ℕ) → f < 10000 → d < 10000 → u < 10000 → o < 10000 → length (head_line f d u o) ≤ 51
 head_long f d u o a b c e =
-    let p = short 4 f (omega arith) (omega arith) (omega arith) in
-    let q = short 4 d (omega arith) (omega arith) (omega arith) in
-    let r = short 4 u (omega arith) (omega arith) (omega arith) in
-    let s = short 4 o (omega arith) (omega arith) (omega arith) in
+    let p = length-decimal-le 4 f (omega arith) (omega arith) (omega arith) in
+    let q = length-decimal-le 4 d (omega arith) (omega arith) (omega arith) in
+    let r = length-decimal-le 4 u (omega arith) (omega arith) (omega arith) in
+    let s = length-decimal-le 4 o (omega arith) (omega arith) (omega arith) in
     simp length-append (omega (arith, p, q, r, s))
 
 -- with a detected fault for each vector, the sheet fits
@@ -81,6 +78,6 @@ sheet_fits c view law few list own =
 pub refusal_fits : (number offset : ℕ) → number < 256 → offset < 2 ^ 64 → length (refusal_text number offset) ≤ 41
 unfolding refusal_text
 refusal_fits number offset a b =
-    let p = short 3 number (omega arith) (omega arith) (omega arith) in
-    let q = short 20 offset (omega arith) (omega arith) b in
+    let p = length-decimal-le 3 number (omega arith) (omega arith) (omega arith) in
+    let q = length-decimal-le 20 offset (omega arith) (omega arith) b in
     simp length-append (omega (arith, p, q))

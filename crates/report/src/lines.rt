@@ -1,7 +1,7 @@
 // The lines without cells: the head of a sheet, the line of one fault, and that of a card that cannot be read.
 ghost use Rattle.std.specs.Prelude.{◌≡◌, [], ◌∷◌};
 ghost use Rattle.page.specs.Pages.{putting};
-ghost use Rattle.page.specs.Views.{filled_of, lent};
+ghost use Rattle.page.specs.Views.{filled_of};
 ghost use Rattle.report.specs.Lines.{ended, fault_line, fault_rows, head_line, refusal_text};
 
 use history::mark::Mark;
@@ -11,7 +11,6 @@ use page::buffer::Page;
 // How many faults there are, and how many of each mark.
 pub fn head_line(page: &mut Page, faults: usize, counts: Counts)
     ensures puts_the_head { filled_of page.new ≡ putting (ended (head_line faults counts.detected counts.untestable counts.«open» ∷ [])) (filled_of page.old) }
-    ensures holds_the_lent_buffer { lent page.new ≡ lent page.old }
 {
     page.put(b"faults ");
     page.number(faults);
@@ -27,7 +26,6 @@ pub fn head_line(page: &mut Page, faults: usize, counts: Counts)
 // The number of a fault and what is said of it.
 fn marked(page: &mut Page, number: usize, word: &[u8])
     ensures puts_the_line { filled_of page.new ≡ putting (ended (fault_line number word.now ∷ [])) (filled_of page.old) }
-    ensures holds_the_lent_buffer { lent page.new ≡ lent page.old }
 {
     page.put(b"fault ");
     page.number(number);
@@ -39,7 +37,6 @@ fn marked(page: &mut Page, number: usize, word: &[u8])
 // The line of a fault that is not detected; a detected one has none.
 pub fn fault_line(page: &mut Page, number: usize, mark: Mark)
     ensures puts_the_line_unless_detected { filled_of page.new ≡ putting (ended (fault_rows number mark)) (filled_of page.old) }
-    ensures holds_the_lent_buffer { lent page.new ≡ lent page.old }
 {
     match mark {
         Mark::Open => marked(page, number, b"open"),
@@ -51,7 +48,6 @@ pub fn fault_line(page: &mut Page, number: usize, mark: Mark)
 // The one line of a card that cannot be read.
 pub fn refusal_line(page: &mut Page, number: u8, offset: usize)
     ensures puts_the_refusal { filled_of page.new ≡ putting (refusal_text number offset) (filled_of page.old) }
-    ensures holds_the_lent_buffer { lent page.new ≡ lent page.old }
 {
     page.put(b"card refused ");
     page.number(number as usize);

@@ -2,7 +2,7 @@
 ghost use Rattle.std.specs.Prelude.{◌≡◌, ◌≤◌, true, ◌++◌, length, drop, is_some, IfSome, nat_le};
 ghost use Rattle.job.specs.Jobs.{card_held, held};
 ghost use Rattle.page.specs.Pages.{putting, written};
-ghost use Rattle.page.specs.Views.{filled_of, lent};
+ghost use Rattle.page.specs.Views.{filled_of};
 ghost use Rattle.report.specs.Limits.{NoMoreVectorsThanDetectedFaults, sheet_room};
 ghost use Rattle.report.specs.Lines.{refusal_text, sheet_of};
 ghost use Rattle.report.specs.Truths.{Tells, TellsTheTruth};
@@ -18,7 +18,6 @@ pub fn report(page: &mut Page, job: &Job)
     ensures the_sheet_tells_what_the_job_holds { let j = job.now in Tells (card_held j) (held j) (sheet_of (card_held j) (held j)) }
     ensures the_sheet_tells_the_truth { let j = job.now in TellsTheTruth (card_held j) (sheet_of (card_held j) (held j)) }
     ensures with_a_detected_fault_for_each_vector_it_has_at_most_65536_bytes { let j = job.now in (NoMoreVectorsThanDetectedFaults (held j) → length (sheet_of (card_held j) (held j)) ≤ sheet_room) }
-    ensures holds_the_lent_buffer { lent page.new ≡ lent page.old }
 {
     head_line(page, job.marks().len(), job.counts());
     vector_lines(page, job.card(), job.vectors());

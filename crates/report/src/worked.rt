@@ -2,9 +2,7 @@
 ghost use Rattle.report.specs.Worked.{SheetOfABadCard, SheetOfCardB};
 
 // Both texts are what the definitions give.
-pub fn worked_sheets_stand() -> u8
+pub fn worked_sheets_stand()
     ensures the_sheet_of_card_b { SheetOfCardB }
     ensures the_sheet_of_a_bad_card { SheetOfABadCard }
-{
-    0
-}
+{}

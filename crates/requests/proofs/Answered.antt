@@ -1,6 +1,8 @@
 -- What each call of the job answers is what its request is answered.
 use Rattle.std.proofs.Common.{◌≡◌, ℕ, ◌<◌, ◌≤◌, Bool, true, List, [], ◌∷◌, ◌++◌, length, get_or, Ok, Err, Result, sym, refl, ap, ◌∙◌, subst, inl, inr, arith}
 use Rattle.std.specs.List.{insert, remove}
+use Rattle.std.specs.Result.{IsErrAnd}
+use Rattle.std.proofs.lemmas.Result.{err_from_is_err_and}
 use Rattle.card.specs.Netlists.{Netlist}
 use Rattle.solving.specs.declared.verdict.Solved.{Solved}
 use Rattle.history.specs.Steps.{KnownTicket, Step, added, closed, merged, searched, swept, took}
@@ -13,8 +15,11 @@ use Rattle.history.specs.declared.refusal.TakeRefusal.{TakeRefusal}
 use Rattle.history.specs.declared.refusal.VectorRefusal.{VectorRefusal}
 use Rattle.job.specs.Tables.{known_as}
 use Rattle.job.specs.declared.ticket.Ticket.{Ticket}
-use Rattle.requests.specs.Serving.{Known, One, at, mine, reply_of}
+use Rattle.requests.specs.Serving.{Known, One, at, mine, replied, reply_of}
+use Rattle.requests.specs.declared.refusal.Refusal.{Refusal}
+use Rattle.requests.specs.declared.reply.Reply.{Reply}
 use Rattle.requests.specs.declared.reply.Reply.TheVariants as reply
+use Rattle.requests.specs.declared.request.Request.{Request}
 use Rattle.requests.specs.declared.request.Request.TheVariants.{Take, Search, Close, Sweep, Add, Merge}
 use Rattle.requests.proofs.Tickets.{known_at, known_long, known_push, known_removed, put_back}
 
@@ -39,6 +44,12 @@ module _ (c : Netlist) (v w : View) (ts : List Ticket) where
 
   pub merge_served : (i j : ℕ) (a : Result (Unit {0}) MergeRefusal) → Step c v (merged i j a) w → One c v ts (Merge i j) (reply_of (merged i j a)) w ts
   merge_served i j a step = record { serves = λ ks known. (merged i j a ∷ [], ks, (known, (refl, (a, (refl, refl, step))))) }
+
+-- a request whose call was refused, the refusal carried by `?`
+pub refusal_carried : {c : Netlist} {v w : View} {ts us : List Ticket} {q p : Request} {e : Refusal} (r : Result Reply Refusal) → q ≡ p → IsErrAnd r (λ y. y ≡ e) → One c v ts p (reply.Refused e) w us → One c v ts q (replied r) w us
+refusal_carried {c} {v} {w} {ts} {us} {q} {p} r asked is one =
+    let (y, err, carried) = err_from_is_err_and r is in
+    subst (λ (k : Request). One c v ts k (replied r) w us) (sym asked) (subst (λ (a : Reply). One c v ts p a w us) (sym (ap replied err ∙ ap reply.Refused carried)) one)
 
 -- a ticket is known at its place, whoever gave it
 known_as_is : (k : KnownTicket) (t : Ticket) → k.fault ≡ t.fault → known_as t k.own ≡ k

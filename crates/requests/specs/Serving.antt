@@ -14,6 +14,7 @@ use Rattle.history.specs.declared.refusal.SearchRefusal.{SearchRefusal}
 use Rattle.history.specs.declared.refusal.TakeRefusal.{TakeRefusal}
 use Rattle.history.specs.declared.refusal.VectorRefusal.{VectorRefusal}
 use Rattle.job.specs.declared.ticket.Ticket.{Ticket}
+use Rattle.requests.specs.declared.refusal.Refusal.{Refusal}
 use Rattle.requests.specs.declared.refusal.Refusal.TheVariants as refused
 use Rattle.requests.specs.declared.reply.Reply.{Reply}
 use Rattle.requests.specs.declared.reply.Reply.TheVariants as reply
@@ -34,6 +35,11 @@ reply_of (added c v (Ok n)) = reply.Added n
 reply_of (added c v (Err e)) = reply.Refused (refused.Add e)
 reply_of (merged i j (Ok u)) = reply.Merged
 reply_of (merged i j (Err e)) = reply.Refused (refused.Merge e)
+
+-- what is replied, where the job may have refused
+abbrev pub replied : Result Reply Refusal → Reply
+replied (Ok r) = r
+replied (Err e) = reply.Refused e
 
 -- a ticket of the job's own
 abbrev pub mine : ℕ → KnownTicket

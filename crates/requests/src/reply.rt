@@ -15,5 +15,6 @@ pub enum Reply {
     Merged,
     // The wallet has no ticket at that place, so nothing was asked of the job.
     NoTicket,
+    // One of the replies: with a Result in its place a list would be of Results, and a desk's `ask` a Result within a Result.
     Refused(Refusal),
 }

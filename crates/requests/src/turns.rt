@@ -12,6 +12,8 @@ use ways::Answering;
 
 // Asks the job for each request, with the wallet's tickets and the solver, and answers what each got.
 // Room for every ticket and reply is asked for first: without it nothing is asked of the job, and nothing changes.
+// The wallet is no part of the job, since it may hold tickets that another job gave. That the card stays is said of each
+// call: no type says of a job that is lent that it was not exchanged for another.
 pub fn run<S: Answering>(
     heap: Global,
     job: &mut Job,

@@ -12,8 +12,7 @@ pub(crate) fn put_back(wallet: &mut Vec<Ticket>, place: usize, ticket: Ticket)
     ensures one_more { vec_len wallet.new ≡ vec_len wallet.old + 1 }
     ensures room_stays { vec_capacity wallet.old ≤ vec_capacity wallet.new }
 {
-    match wallet.insert(place, ticket) {
-        Ok(()) => {}
-        Err(back) => wallet.push_reserved(back.value),
+    if let Err(_back) = wallet.insert(place, ticket) {
+        unreachable()
     }
 }

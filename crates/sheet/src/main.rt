@@ -21,18 +21,20 @@ const SECONDS: u64 = 5;
 
 impl Progress for Meter<'_> {
     fn begin(&mut self, fault: usize, faults: usize) {
-        if let Ok(waited) = self.since.elapsed(self.rt) {
-            if waited.as_secs() >= SECONDS {
-                let _ = eprintln!(self.rt; "at fault {fault} of {faults}");
-                if let Ok(now) = Instant::now(self.rt) {
-                    self.since = now;
-                }
-            }
+        let Ok(waited) = self.since.elapsed(self.rt) else {
+            return;
+        };
+        if waited.as_secs() < SECONDS {
+            return;
+        }
+        let _ = eprintln!(self.rt; "at fault {fault} of {faults}");
+        if let Ok(now) = Instant::now(self.rt) {
+            self.since = now;
         }
     }
 }
 
-// Why nothing was printed.
+// Why nothing was printed. A function and no Display: these words are this program's alone, the library knows numbers.
 fn reason(fault: SheetFault) -> anyhow::Error {
     match fault {
         SheetFault::Room => anyhow!("a buffer with too little room"),
@@ -49,16 +51,12 @@ fn run(rt: &HostRuntime) -> anyhow::Result<()> {
         rt,
         since: Instant::now(rt)?,
     };
-    match sheet(rt.alloc(), bytes.as_slice(), &mut buffer, &mut meter) {
-        Ok(printed) => {
-            let Some(text) = buffer.get(0..printed.length) else {
-                return Err(anyhow!("a sheet longer than its buffer"));
-            };
-            rt.stdout().write_all(text)?;
-            Ok(())
-        }
-        Err(fault) => Err(reason(fault)),
-    }
+    let printed = sheet(rt.alloc(), bytes.as_slice(), &mut buffer, &mut meter).map_err(reason)?;
+    let Some(text) = buffer.get(0..printed.length) else {
+        return Err(anyhow!("a sheet longer than its buffer"));
+    };
+    rt.stdout().write_all(text)?;
+    Ok(())
 }
 
 fn main(rt: HostRuntime) -> anyhow::Result<()> {

@@ -1,12 +1,11 @@
 -- A sheet's job has no more vectors than detected faults: each new vector comes with a fault of its own, and no detected fault is lost.
-use Rattle.std.proofs.Common.{◌≡◌, ℕ, zero, suc, ◌+◌, ◌<◌, ◌≤◌, Bool, true, false, cond, ltb, List, [], ◌∷◌, ◌++◌, map, length, get_or, set, replicate, count_by, sym, refl, ap, ◌∙◌, subst, ⊎_elim, arith, length-append, length-set}
+use Rattle.std.proofs.Common.{◌≡◌, ℕ, zero, suc, ◌<◌, ◌≤◌, Bool, true, false, cond, ltb, List, [], ◌∷◌, map, length, count_by, refl, ap, ◌∙◌, ⊎_elim, arith, length-append, length-set}
 use lib.ListN.{length-replicate}
 use Rattle.std.specs.List.{range_with_len}
 use Rattle.std.proofs.lemmas.List.FromFn.{fill_by_all, length-map-range_with_len}
 use Rattle.std.proofs.lemmas.List.Sums.{sum_by-cons, sum_by-set}
 use Rattle.std.proofs.lemmas.Bool.{cases_Bool, cond_both}
 use Rattle.card.specs.Netlists.{Netlist}
-use Rattle.vectors.specs.Vectors.{Cells}
 use Rattle.faults.specs.Sites.{fault_count}
 use Rattle.asking.specs.Findings.{Finding, shown, unknown, untestable}
 use Rattle.history.specs.Changing.{closing, entering, sweeping, swept_mark, taking}

@@ -1,10 +1,9 @@
 -- What is put into the buffer is the text for the card bytes, and it fits.
-use Rattle.std.proofs.Common.{◌≡◌, ℕ, ◌^◌, ◌<◌, ◌≤◌, Bool, true, false, ltb, ◌⊎◌, List, ◌++◌, length, drop, IfOk, IfErr, Some, None, Ok, Err, Decides, Result, sym, refl, ap, ◌∙◌, subst, inl, inr, arith, MatchResult}
-use Rattle.std.proofs.lemmas.Bool.{both_ways, false≢true, le-ltb}
+use Rattle.std.proofs.Common.{◌≡◌, ℕ, ◌≤◌, ◌⊎◌, List, ◌++◌, length, drop, IfOk, IfErr, Some, None, Ok, Err, Result, sym, ap, ◌∙◌, subst, inr, arith, MatchResult}
 use Rattle.card.specs.Netlists.{Netlist}
 use Rattle.reading.specs.Reading.{reading}
 use Rattle.reading.specs.Refusals.{refusal_number, refusal_offset}
-use Rattle.reading.specs.Rules.{Accepted, Refused}
+use Rattle.reading.specs.Rules.{Accepted}
 use Rattle.reading.specs.declared.fault.CardFault.{CardFault}
 use Rattle.reading.specs.declared.fault.CardFault.TheVariants as card
 use Rattle.reading.proofs.Ruled.{agree}

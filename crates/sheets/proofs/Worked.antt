@@ -1,21 +1,19 @@
 -- The work on one fault: what each call of the job does comes to the definition.
-use Rattle.std.proofs.Common.{◌≡◌, ℕ, zero, suc, ◌+◌, ◌<◌, ◌≤◌, Bool, true, false, cond, ltb, List, length, get_or, set, replicate, is_ok, IfOk, Some, None, Ok, Err, Option, Result, sym, refl, ap, ◌∙◌, subst, ⊎_elim, add-one, arith, length-set, get_or-set_other, get_or-set_same}
+use Rattle.std.proofs.Common.{◌≡◌, ℕ, zero, suc, ◌+◌, ◌<◌, ◌≤◌, Bool, true, false, cond, ltb, List, length, get_or, set, is_ok, IfOk, Some, Ok, Err, Result, sym, refl, ap, ◌∙◌, subst, ⊎_elim, add-one, arith, length-set, get_or-set_other, get_or-set_same}
 use Rattle.std.proofs.lemmas.List.{get_or_past}
-use Rattle.std.proofs.lemmas.Bool.{cases_Bool, cases_eq, cases_lt, false≢true, le-ltb, lt-ltb}
+use Rattle.std.proofs.lemmas.Bool.{cases_Bool, cases_eq, cases_lt, le-ltb, lt-ltb}
 use Rattle.card.specs.Netlists.{Netlist}
 use Rattle.signal.specs.declared.line.Stuck.{Stuck}
 use Rattle.faults.specs.Sites.{fault_count, stuck_of}
 use Rattle.solving.specs.Backtracking.{backtracked}
 use Rattle.solving.specs.Models.{Model}
-use Rattle.solving.specs.Trials.{after, leaves, told, verdict_of}
+use Rattle.solving.specs.Trials.{verdict_of}
 use Rattle.ways.specs.Ways.{ByBacktracking}
 use Rattle.solving.specs.declared.verdict.Solved.{Solved}
-use Rattle.solving.specs.declared.verdict.Verdict.{Verdict}
 use Rattle.formula.specs.Posing.{holds_formula}
 use Rattle.asking.specs.Findings.{Finding, finding, shown, unknown, untestable}
 use Rattle.history.specs.Changing.{closing, entering, sweeping, taking}
 use Rattle.history.specs.Granting.{closes, searches, sweep_count, sweeps, takes}
-use Rattle.history.specs.Steps.{Searched}
 use Rattle.history.specs.Views.{View, is_open, is_taken, mark, most, new_view}
 use Rattle.history.specs.declared.refusal.SearchRefusal.{SearchRefusal}
 use Rattle.history.specs.declared.refusal.SearchRefusal.TheVariants as seek

@@ -33,8 +33,7 @@ impl SheetFault {
         ensures is_the_faults_offset { result ≡ sheet_offset self }
     {
         match self {
-            SheetFault::Room => 0,
-            SheetFault::Memory => 0,
+            SheetFault::Room | SheetFault::Memory => 0,
             SheetFault::Card(fault) => fault.offset(),
         }
     }

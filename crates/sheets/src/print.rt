@@ -17,8 +17,8 @@ use crate::work::work;
 use job::Job;
 use reading::read::from_bytes;
 use report::sheet::{refusal_into, report_into};
-use std::alloc::{AllocError, Global};
 use solvers::Backtracking;
+use std::alloc::{AllocError, Global};
 
 // Room for every sheet.
 pub const SHEET_ROOM: usize = 65_536;
@@ -41,20 +41,14 @@ fn put(prepared: Result<Job, SheetFault>, buffer: &mut [u8]) -> Result<Sheet, Sh
     ensures puts_the_text_or_leaves_the_buffer { Puts prepared buffer.old result buffer.new }
 {
     match prepared {
-        Ok(job) => match report_into(&job, buffer) {
-            Some(length) => Ok(Sheet {
-                length,
-                fault: None,
-            }),
-            None => unreachable(),
-        },
-        Err(SheetFault::Card(fault)) => match refusal_into(fault.number(), fault.offset(), buffer) {
-            Some(length) => Ok(Sheet {
-                length,
-                fault: Some(SheetFault::Card(fault)),
-            }),
-            None => unreachable(),
-        },
+        Ok(job) => Ok(Sheet {
+            length: report_into(&job, buffer).unwrap(),
+            fault: None,
+        }),
+        Err(SheetFault::Card(fault)) => Ok(Sheet {
+            length: refusal_into(fault.number(), fault.offset(), buffer).unwrap(),
+            fault: Some(SheetFault::Card(fault)),
+        }),
         Err(fault) => Err(fault),
     }
 }

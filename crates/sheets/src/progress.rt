@@ -1,4 +1,5 @@
 // Whoever waits for a sheet may be told how far the work is.
+// A trait and no closure: who calls a closure has to require that it may be called, and the call for a sheet requires nothing.
 
 pub trait Progress {
     // The work on this fault, of so many, begins.

@@ -24,9 +24,8 @@ fn work_on(job: &mut Job, solver: &mut Backtracking, fault: usize)
         return;
     };
     let _ = job.search(&ticket, solver, BUDGET);
-    match job.close(ticket) {
-        Ok(()) => {}
-        Err(_back) => unreachable(),
+    if let Err(_back) = job.close(ticket) {
+        unreachable()
     }
     if listed < job.vectors().len() {
         let _ = job.sweep(listed);

@@ -2,43 +2,28 @@
 // All that decides anything is in the libraries; this file reads calls in words, asks the desk and prints.
 #![tactic(auto)]
 
-use anyhow::anyhow;
 use card::netlist::Card;
+use console::{card_named, number};
 use desk::Desk;
 use history::mark::Mark;
-use job::Job;
-use reading::fault::CardFault;
-use reading::read::from_bytes;
+use job::shown::{Counts, Listed, Marked};
 use requests::{Reply, Request};
 use solving::{Solved, Verdict};
 use std::alloc::{AllocError, Global};
 use std::io::{BufRead, BufReader};
-use std::{env, fs};
-use solvers::{Backtracking, Counting};
+use std::str::FromStr;
 use vectors::row::character;
 use vectors::vector::Vector;
-
-// The solver that a search is made by.
-#[derive(Clone, Copy)]
-enum Method {
-    Backtracking,
-    Counting,
-}
+use workbench::{Method, Workbench};
 
 #[derive(Clone, Copy)]
 enum Call {
-    // Take this fault.
-    Take(usize),
+    // Ask the job for this, which needs no ticket.
+    Ask(Request),
     // Search for this fault within a budget.
     Search(usize, u64, Method),
     // Close this fault.
     Close(usize),
-    // Sweep by this vector.
-    Sweep(usize),
-    // Add the vector of these two numbers, care and value.
-    Add(u32, u32),
-    // Merge the second vector into the first.
-    Merge(usize, usize),
     // Show the mark of this fault.
     Mark(usize),
     // Show this vector.
@@ -47,22 +32,13 @@ enum Call {
     Counts,
 }
 
-// A number below 2^64, in digits alone.
-fn number(word: &str) -> Option<u64> {
-    if word.starts_with('+') {
-        return None;
-    }
-    word.parse::<u64>().ok()
-}
-
-// A number of 64 bits as an index.
-fn index(word: &str) -> Option<usize> {
-    usize::try_from(number(word)?).ok()
-}
-
-// A number below 2^32.
-fn short(word: &str) -> Option<u32> {
-    u32::try_from(number(word)?).ok()
+// Two numbers with a space between.
+fn pair<T: FromStr + Drop>(words: &str) -> Option<(T, T)>
+where
+    T::Err: Drop,
+{
+    let (first, second) = words.split_once(' ')?;
+    Some((number(first)?, number(second)?))
 }
 
 // `FAULT BUDGET` or `FAULT BUDGET counting`.
@@ -73,122 +49,52 @@ fn search_of(words: &str) -> Option<Call> {
         Some((budget, "counting")) => (budget, Method::Counting),
         Some(_) => return None,
     };
-    Some(Call::Search(index(fault)?, number(budget)?, method))
+    Some(Call::Search(number(fault)?, number(budget)?, method))
 }
 
 // `CARE VALUE`.
 fn add_of(words: &str) -> Option<Call> {
-    let (care, value) = words.split_once(' ')?;
-    Some(Call::Add(short(care)?, short(value)?))
+    let (care, value) = pair::<u32>(words)?;
+    Some(Call::Ask(Request::Add(care, value)))
 }
 
 // `INTO GONE`.
 fn merge_of(words: &str) -> Option<Call> {
-    let (into, gone) = words.split_once(' ')?;
-    Some(Call::Merge(index(into)?, index(gone)?))
+    let (into, gone) = pair::<usize>(words)?;
+    Some(Call::Ask(Request::Merge(into, gone)))
 }
 
 // The call that a line spells; None for any other line.
 fn call_of(line: &str) -> Option<Call> {
     let Some((name, words)) = line.split_once(' ') else {
-        return if line == "counts" {
-            Some(Call::Counts)
-        } else {
-            None
-        };
+        return (line == "counts").then_some(Call::Counts);
     };
     match name {
-        "take" => Some(Call::Take(index(words)?)),
+        "take" => Some(Call::Ask(Request::Take(number(words)?))),
         "search" => search_of(words),
-        "close" => Some(Call::Close(index(words)?)),
-        "sweep" => Some(Call::Sweep(index(words)?)),
+        "close" => Some(Call::Close(number(words)?)),
+        "sweep" => Some(Call::Ask(Request::Sweep(number(words)?))),
         "add" => add_of(words),
         "merge" => merge_of(words),
-        "mark" => Some(Call::Mark(index(words)?)),
-        "vector" => Some(Call::Vector(index(words)?)),
+        "mark" => Some(Call::Mark(number(words)?)),
+        "vector" => Some(Call::Vector(number(words)?)),
         _ => None,
     }
 }
 
-// Both solvers, opened once.
-#[derive(Drop)]
-struct Bench {
-    backtracking: Backtracking,
-    counting: Counting,
-}
-
-impl Bench {
-    fn new(heap: Global) -> Result<Bench, AllocError> {
-        Ok(Bench {
-            backtracking: Backtracking::new(heap)?,
-            counting: Counting::new(heap)?,
-        })
-    }
-
-    // Asks the desk's job for the request; a search is made by the method's solver.
-    fn ask(
-        &mut self,
-        heap: Global,
-        desk: &mut Desk,
-        request: Request,
-        method: Method,
-    ) -> Result<Reply, AllocError> {
-        match method {
-            Method::Backtracking => desk.ask(heap, &mut self.backtracking, request),
-            Method::Counting => desk.ask(heap, &mut self.counting, request),
-        }
-    }
-}
-
 // The cells of a vector as text, from input 0.
-fn cells(heap: Global, vector: &Vector, count: usize) -> anyhow::Result<String> {
-    let mut text = String::new(heap);
-    for input in 0..count {
-        text.push(char::from(character(vector.cell(input))))?;
-    }
-    Ok(text)
+fn cells(heap: Global, vector: &Vector, count: usize) -> Result<String, AllocError> {
+    (0..count)
+        .map(|input| char::from(character(vector.cell(input))))
+        .collect(heap)
 }
 
-// What a search found; the newest vector is the one that it put last.
-fn print_solved(rt: &HostRuntime, job: &Job, solved: Solved) -> anyhow::Result<()> {
-    let steps = solved.steps;
-    match solved.verdict {
-        Verdict::Found => {
-            let newest = job.vectors().len().saturating_sub(1);
-            println!(rt; "found vector {newest} steps {steps}")?;
-        }
-        Verdict::None => println!(rt; "none steps {steps}")?,
-        Verdict::Undecided => println!(rt; "undecided steps {steps}")?,
-    }
+fn print_refused(rt: &HostRuntime, number: u8) -> anyhow::Result<()> {
+    println!(rt; "refused {number}")?;
     Ok(())
 }
 
-fn print_reply(rt: &HostRuntime, job: &Job, reply: Reply) -> anyhow::Result<()> {
-    match reply {
-        Reply::Taken => println!(rt; "taken")?,
-        Reply::Searched(solved) => print_solved(rt, job, solved)?,
-        Reply::Closed => println!(rt; "closed")?,
-        Reply::Swept(count) => println!(rt; "swept {count}")?,
-        Reply::Added(vector) => println!(rt; "added {vector}")?,
-        Reply::Merged => println!(rt; "merged")?,
-        Reply::NoTicket => println!(rt; "no ticket")?,
-        Reply::Refused(refusal) => {
-            let number = refusal.number();
-            println!(rt; "refused {number}")?;
-        }
-    }
-    Ok(())
-}
-
-fn print_mark(rt: &HostRuntime, job: &Job, fault: usize) -> anyhow::Result<()> {
-    let shown = match job.mark(fault) {
-        Ok(shown) => shown,
-        Err(refusal) => {
-            let number = refusal.number();
-            println!(rt; "refused {number}")?;
-            return Ok(());
-        }
-    };
+fn print_marked(rt: &HostRuntime, shown: Marked) -> anyhow::Result<()> {
     let taken = if shown.taken { " taken" } else { "" };
     match shown.mark {
         Mark::Open => println!(rt; "open{taken}")?,
@@ -198,99 +104,146 @@ fn print_mark(rt: &HostRuntime, job: &Job, fault: usize) -> anyhow::Result<()> {
     Ok(())
 }
 
-fn print_vector(rt: &HostRuntime, job: &Job, number: usize) -> anyhow::Result<()> {
-    match job.vector(number) {
-        Ok(listed) => {
-            let inputs = cells(rt.alloc(), &listed.vector, job.card().inputs())?;
-            let outputs = cells(rt.alloc(), &listed.outputs, job.card().outputs().len())?;
-            println!(rt; "{inputs} {outputs}")?;
+// The desk, and the solvers that its searches are made by.
+struct Shift<'a> {
+    rt: &'a HostRuntime,
+    desk: Desk,
+    bench: Workbench,
+}
+
+impl Shift<'_> {
+    // What a search found; the newest vector is the one that it put last.
+    fn print_solved(&self, solved: Solved) -> anyhow::Result<()> {
+        let steps = solved.steps;
+        match solved.verdict {
+            Verdict::Found => {
+                let newest = self.desk.job().vectors().len().saturating_sub(1);
+                println!(self.rt; "found vector {newest} steps {steps}")?;
+            }
+            Verdict::None => println!(self.rt; "none steps {steps}")?,
+            Verdict::Undecided => println!(self.rt; "undecided steps {steps}")?,
         }
-        Err(refusal) => {
-            let number = refusal.number();
-            println!(rt; "refused {number}")?;
+        Ok(())
+    }
+
+    // Printed here and not by Display: the reply's type is a library's, and the vector that a search found is known to the job alone.
+    fn print_reply(&self, reply: Reply) -> anyhow::Result<()> {
+        match reply {
+            Reply::Taken => println!(self.rt; "taken")?,
+            Reply::Searched(solved) => self.print_solved(solved)?,
+            Reply::Closed => println!(self.rt; "closed")?,
+            Reply::Swept(count) => println!(self.rt; "swept {count}")?,
+            Reply::Added(vector) => println!(self.rt; "added {vector}")?,
+            Reply::Merged => println!(self.rt; "merged")?,
+            Reply::NoTicket => println!(self.rt; "no ticket")?,
+            Reply::Refused(refusal) => print_refused(self.rt, refusal.number())?,
+        }
+        Ok(())
+    }
+
+    fn print_mark(&self, fault: usize) -> anyhow::Result<()> {
+        match self.desk.job().mark(fault) {
+            Ok(shown) => print_marked(self.rt, shown),
+            Err(refusal) => print_refused(self.rt, refusal.number()),
         }
     }
-    Ok(())
-}
 
-fn print_counts(rt: &HostRuntime, job: &Job) -> anyhow::Result<()> {
-    let counts = job.counts();
-    let open = counts.open;
-    let detected = counts.detected;
-    let untestable = counts.untestable;
-    let taken = counts.taken;
-    println!(rt; "open {open} detected {detected} untestable {untestable} taken {taken}")?;
-    Ok(())
-}
-
-// Asks for a request and prints what it got.
-fn ask(
-    rt: &HostRuntime,
-    desk: &mut Desk,
-    bench: &mut Bench,
-    request: Request,
-    method: Method,
-) -> anyhow::Result<()> {
-    let reply = bench.ask(rt.alloc(), desk, request, method)?;
-    print_reply(rt, desk.job(), reply)
-}
-
-// The same with the ticket for a fault, if there is one.
-fn search(
-    rt: &HostRuntime,
-    desk: &mut Desk,
-    bench: &mut Bench,
-    fault: usize,
-    budget: u64,
-    method: Method,
-) -> anyhow::Result<()> {
-    match desk.place(fault) {
-        Some(place) => ask(rt, desk, bench, Request::Search(place, budget), method),
-        None => print_reply(rt, desk.job(), Reply::NoTicket),
+    // The cells of a listed vector, and those of its outputs.
+    fn print_listed(&self, listed: Listed) -> anyhow::Result<()> {
+        let heap = self.rt.alloc();
+        let card = self.desk.job().card();
+        let inputs = cells(heap, &listed.vector, card.inputs())?;
+        let outputs = cells(heap, &listed.outputs, card.outputs().len())?;
+        println!(self.rt; "{inputs} {outputs}")?;
+        Ok(())
     }
-}
 
-fn close(rt: &HostRuntime, desk: &mut Desk, bench: &mut Bench, fault: usize) -> anyhow::Result<()> {
-    match desk.place(fault) {
-        Some(place) => ask(rt, desk, bench, Request::Close(place), Method::Backtracking),
-        None => print_reply(rt, desk.job(), Reply::NoTicket),
+    fn print_vector(&self, number: usize) -> anyhow::Result<()> {
+        match self.desk.job().vector(number) {
+            Ok(listed) => self.print_listed(listed),
+            Err(refusal) => print_refused(self.rt, refusal.number()),
+        }
     }
-}
 
-// Answers one line.
-fn answer(rt: &HostRuntime, desk: &mut Desk, bench: &mut Bench, line: &str) -> anyhow::Result<()> {
-    let Some(call) = call_of(line) else {
-        println!(rt; "not a call")?;
-        return Ok(());
-    };
-    let any = Method::Backtracking;
-    match call {
-        Call::Take(fault) => ask(rt, desk, bench, Request::Take(fault), any),
-        Call::Search(fault, budget, method) => search(rt, desk, bench, fault, budget, method),
-        Call::Close(fault) => close(rt, desk, bench, fault),
-        Call::Sweep(vector) => ask(rt, desk, bench, Request::Sweep(vector), any),
-        Call::Add(care, value) => ask(rt, desk, bench, Request::Add(care, value), any),
-        Call::Merge(into, gone) => ask(rt, desk, bench, Request::Merge(into, gone), any),
-        Call::Mark(fault) => print_mark(rt, desk.job(), fault),
-        Call::Vector(number) => print_vector(rt, desk.job(), number),
-        Call::Counts => print_counts(rt, desk.job()),
+    fn print_counts(&self) -> anyhow::Result<()> {
+        let Counts {
+            open,
+            detected,
+            untestable,
+            taken,
+        } = self.desk.job().counts();
+        println!(self.rt; "open {open} detected {detected} untestable {untestable} taken {taken}")?;
+        Ok(())
     }
-}
 
-// Answers every line.
-fn serve(rt: &HostRuntime, desk: &mut Desk) -> anyhow::Result<()> {
-    let mut bench = Bench::new(rt.alloc())?;
-    for line in BufReader::new(rt.alloc(), rt.stdin())?.lines(rt.alloc()) {
-        let text = line?;
-        answer(rt, desk, &mut bench, text.as_str())?;
+    // Asks for a request and prints what it got; a search is made by the method's solver.
+    // A match: the two solvers differ in type, and a `dyn` would be chosen by one too.
+    fn ask(&mut self, request: Request, method: Method) -> anyhow::Result<()> {
+        let heap = self.rt.alloc();
+        let reply = match method {
+            Method::Backtracking => self.desk.ask(heap, &mut self.bench.backtracking, request)?,
+            Method::Counting => self.desk.ask(heap, &mut self.bench.counting, request)?,
+        };
+        self.print_reply(reply)
     }
-    Ok(())
+
+    // The same with the ticket for a fault, if there is one: the request is made for the ticket's place.
+    fn ask_with_ticket<F: FnOnce(usize) -> Request>(
+        &mut self,
+        fault: usize,
+        request: F,
+        method: Method,
+    ) -> anyhow::Result<()>
+        requires { F.IsAlwaysCallable request }
+    {
+        match self.desk.place(fault) {
+            Some(place) => self.ask(request(place), method),
+            None => self.print_reply(Reply::NoTicket),
+        }
+    }
+
+    // Answers one line.
+    fn answer(&mut self, line: &str) -> anyhow::Result<()> {
+        let Some(call) = call_of(line) else {
+            println!(self.rt; "not a call")?;
+            return Ok(());
+        };
+        match call {
+            Call::Ask(request) => self.ask(request, Method::Backtracking),
+            Call::Search(fault, budget, method) => {
+                self.ask_with_ticket(fault, |place| Request::Search(place, budget), method)
+            }
+            Call::Close(fault) => {
+                self.ask_with_ticket(fault, |place| Request::Close(place), Method::Backtracking)
+            }
+            Call::Mark(fault) => self.print_mark(fault),
+            Call::Vector(number) => self.print_vector(number),
+            Call::Counts => self.print_counts(),
+        }
+    }
+
+    // Answers every line.
+    fn serve(&mut self) -> anyhow::Result<()> {
+        let heap = self.rt.alloc();
+        for line in BufReader::new(heap, self.rt.stdin())?.lines(heap) {
+            let text = line?;
+            self.answer(text.as_str())?;
+        }
+        Ok(())
+    }
 }
 
 // Works through the calls on a good card. Whatever ends them, the tickets that are left are closed.
 fn work(rt: &HostRuntime, card: Card) -> anyhow::Result<()> {
-    let mut desk = Desk::open(rt.alloc(), card)?;
-    let served = serve(rt, &mut desk);
+    let bench = Workbench::new(rt.alloc())?;
+    let desk = Desk::open(rt.alloc(), card)?;
+    let mut shift = Shift { rt, desk, bench };
+    let served = shift.serve();
+    let Shift {
+        rt: _,
+        desk,
+        bench: _,
+    } = shift;
     let closed = desk.finish();
     served?;
     println!(rt; "closed at end {closed}")?;
@@ -298,20 +251,11 @@ fn work(rt: &HostRuntime, card: Card) -> anyhow::Result<()> {
 }
 
 fn run(rt: &HostRuntime) -> anyhow::Result<()> {
-    let Some(path) = env::args(rt)?.nth(1) else {
-        return Err(anyhow!("usage: shift CARD-FILE < CALLS"));
-    };
-    let bytes = fs::read(rt, path.as_str())?;
-    match from_bytes(rt.alloc(), bytes.as_slice()) {
-        Ok(card) => work(rt, card),
-        Err(CardFault::Memory) => Err(anyhow!("no memory to hold the card")),
-        Err(fault) => {
-            let number = fault.number();
-            let offset = fault.offset();
-            println!(rt; "card refused {number} at {offset}")?;
-            Ok(())
-        }
+    match card_named(rt, "usage: shift CARD-FILE < CALLS")? {
+        Ok(card) => work(rt, card)?,
+        Err(fault) => println!(rt; "{fault}")?,
     }
+    Ok(())
 }
 
 fn main(rt: HostRuntime) -> anyhow::Result<()> {

@@ -1,6 +1,6 @@
 -- The three values by the bits that each allows, and their answers by the bits that allowed bits make.
 -- No table stands here: the code's tables are held to these definitions.
-use Rattle.std.specs.Prelude.{◌≡◌, ℕ, Bool, true, false, not, ◌&&◌, ◌||◌, ◌↔◌, List}
+use Rattle.std.specs.Prelude.{◌≡◌, Bool, true, false, not, ◌&&◌, ◌||◌, ◌↔◌, List}
 use Rattle.card.specs.declared.function.Function.{Function}
 use Rattle.signal.specs.declared.ternary.Ternary.{Ternary}
 use Rattle.signal.specs.declared.ternary.Ternary.TheVariants.{Low, High, X}
@@ -50,9 +50,3 @@ ternary_operations = record {
 abbrev pub UnknownWhereBothAreMade : Type 0
 UnknownWhereBothAreMade =
     (f : Function) (pins : List Ternary) → (truth ternary_operations f pins ≡ X) ↔ (MadeOfPins Allows f pins false × MadeOfPins Allows f pins true)
-
--- the row or column of a value in the code's tables
-abbrev pub place : Ternary → ℕ
-place Low = 0
-place High = 1
-place X = 2

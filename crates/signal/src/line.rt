@@ -3,7 +3,7 @@
 ghost use Rattle.std.specs.Prelude.{◌≡◌};
 ghost use Rattle.signal.specs.Walks.{is_net, is_pin, level_of, sticks_net, sticks_pin};
 
-#[derive(Clone, Copy)]
+#[derive(Clone, Copy, PartialEq, Eq)]
 pub enum Line {
     // A net, by its number.
     Net(u16),
@@ -12,7 +12,7 @@ pub enum Line {
 }
 
 // A line and the level that it is stuck at.
-#[derive(Clone, Copy)]
+#[derive(Clone, Copy, PartialEq, Eq)]
 pub struct Stuck {
     pub line: Line,
     pub level: bool,
@@ -23,20 +23,14 @@ impl Line {
     fn is_net(self, net: usize) -> bool
         ensures tells_whether_it_is_the_net { result ≡ is_net self net }
     {
-        match self {
-            Line::Net(own) => own as usize == net,
-            Line::Pin(_, _) => false,
-        }
+        matches!(self, Line::Net(own) if own as usize == net)
     }
 
     // Whether the line is this pin of the gate that makes this net.
     fn is_pin(self, net: usize, pin: u8) -> bool
         ensures tells_whether_it_is_the_pin { result ≡ is_pin self net pin }
     {
-        match self {
-            Line::Net(_) => false,
-            Line::Pin(own, own_pin) => own as usize == net && own_pin == pin,
-        }
+        matches!(self, Line::Pin(own, own_pin) if own as usize == net && own_pin == pin)
     }
 }
 
@@ -44,28 +38,19 @@ impl Line {
 pub fn sticks_net(stuck: Option<Stuck>, net: usize) -> bool
     ensures tells_whether_the_net_sticks { result ≡ sticks_net stuck net }
 {
-    match stuck {
-        Some(fault) => fault.line.is_net(net),
-        None => false,
-    }
+    stuck.is_some_and(|fault| fault.line.is_net(net))
 }
 
 // Whether a pin of the gate that makes a net sticks.
 pub fn sticks_pin(stuck: Option<Stuck>, net: usize, pin: u8) -> bool
     ensures tells_whether_the_pin_sticks { result ≡ sticks_pin stuck net pin }
 {
-    match stuck {
-        Some(fault) => fault.line.is_pin(net, pin),
-        None => false,
-    }
+    stuck.is_some_and(|fault| fault.line.is_pin(net, pin))
 }
 
 // The level of what sticks.
 pub fn level(stuck: Option<Stuck>) -> bool
     ensures is_the_stuck_level { result ≡ level_of stuck }
 {
-    match stuck {
-        Some(fault) => fault.level,
-        None => false,
-    }
+    stuck.is_some_and(|fault| fault.level)
 }

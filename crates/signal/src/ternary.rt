@@ -2,13 +2,14 @@
 // An answer is X exactly where bits that the operands allow, chosen independently, give both results; it is read from a table of nine.
 ghost use Rattle.std.specs.Prelude.{◌≡◌};
 ghost use Rattle.signal.specs.Exacts.{GatesExact};
-ghost use Rattle.signal.specs.Ternaries.{Allows, place, ternary_operations, UnknownWhereBothAreMade};
+ghost use Rattle.signal.specs.Ternaries.{Allows, ternary_operations, UnknownWhereBothAreMade};
 ghost use Rattle.signal.specs.Unknowns.{ternary_inhabited, ternary_sound, ternary_exact};
 ghost use Rattle.signal.specs.Exactly.{exact_definite};
 
 use crate::kind::Signal;
 
-#[derive(Clone, Copy)]
+// In this order the number of a value is its row and its column in the tables.
+#[derive(Clone, Copy, PartialEq, Eq)]
 pub enum Ternary {
     Low,
     High,
@@ -32,19 +33,6 @@ const XOR: [[Ternary; 3]; 3] = [
     [Ternary::High, Ternary::Low, Ternary::X],
     [Ternary::X, Ternary::X, Ternary::X],
 ];
-
-impl Ternary {
-    // The row or column of a value in a table.
-    fn place(self) -> usize
-        ensures is_the_place { result ≡ place self }
-    {
-        match self {
-            Ternary::Low => 0,
-            Ternary::High => 1,
-            Ternary::X => 2,
-        }
-    }
-}
 
 impl Signal for Ternary {
     ghost lanes = { 1 };
@@ -72,15 +60,15 @@ impl Signal for Ternary {
     }
 
     fn and(x: Ternary, y: Ternary) -> Ternary {
-        AND[x.place()][y.place()]
+        AND[x as usize][y as usize]
     }
 
     fn or(x: Ternary, y: Ternary) -> Ternary {
-        OR[x.place()][y.place()]
+        OR[x as usize][y as usize]
     }
 
     fn xor(x: Ternary, y: Ternary) -> Ternary {
-        XOR[x.place()][y.place()]
+        XOR[x as usize][y as usize]
     }
 }
 

@@ -43,46 +43,48 @@ fn end<S: Signal + Copy>(function: Function, x: S) -> S
     }
 }
 
-// The stuck level where the test holds, else the value.
-fn unless_stuck<S: Signal + Copy>(stuck: Option<Stuck>, sticks: bool, x: S) -> S
-    ensures is_the_level_or_the_value { result ≡ unless_stuck S.Signal.operations stuck sticks x }
-{
-    if sticks { S::constant(level(stuck)) } else { x }
+// A net that a gate makes, beside the line that sticks.
+#[derive(Clone, Copy)]
+pub(crate) struct Site {
+    pub(crate) stuck: Option<Stuck>,
+    pub(crate) net: usize,
 }
 
-// The value at a pin: the stuck level where this pin sticks, else the value of the net that it reads.
-fn pin_value<S: Signal + Copy>(
-    stuck: Option<Stuck>,
-    nets: &[S; 256],
-    net: usize,
-    pin: u8,
-    read: u16,
-) -> S
-    requires reads_a_net { read < 256 }
-    ensures is_the_pins_value { result ≡ unless_stuck S.Signal.operations stuck (sticks_pin stuck net pin) (slice_index_or nets.now read (S.Signal.operations.constant false)) }
-{
-    unless_stuck(stuck, sticks_pin(stuck, net, pin), nets[read as usize])
-}
-
-// The value of the net that a gate makes.
-pub(crate) fn gate_value<S: Signal + Copy>(
-    gate: Gate,
-    stuck: Option<Stuck>,
-    nets: &[S; 256],
-    net: usize,
-) -> S
-    requires reads_nets { all_below 256 (pins_of gate) ≡ true }
-    ensures is_the_nets_value { result ≡ gate_net S.Signal.operations stuck nets.now net gate }
-{
-    let function = gate.function;
-    let joined = match gate.operands {
-        Operands::None => no_pin(function),
-        Operands::One(a) => pin_value(stuck, nets, net, 0, a),
-        Operands::Two(a, b) => {
-            let first = pin_value(stuck, nets, net, 0, a);
-            let second = pin_value(stuck, nets, net, 1, b);
-            join(function, first, second)
+impl Site {
+    // The stuck level where the test holds, else the value.
+    fn unless_stuck<S: Signal + Copy>(self, sticks: bool, x: S) -> S
+        ensures is_the_level_or_the_value { result ≡ unless_stuck S.Signal.operations self.stuck sticks x }
+    {
+        if sticks {
+            S::constant(level(self.stuck))
+        } else {
+            x
         }
-    };
-    unless_stuck(stuck, sticks_net(stuck, net), end(function, joined))
+    }
+
+    // The value at a pin: the stuck level where this pin sticks, else the value of the net that it reads.
+    fn pin<S: Signal + Copy>(self, pin: u8, nets: &[S; 256], read: u16) -> S
+        requires reads_a_net { read < 256 }
+        ensures is_the_pins_value { result ≡ unless_stuck S.Signal.operations self.stuck (sticks_pin self.stuck self.net pin) (slice_index_or nets.now read (S.Signal.operations.constant false)) }
+    {
+        self.unless_stuck(sticks_pin(self.stuck, self.net, pin), nets[read as usize])
+    }
+
+    // The value of the net, which the gate makes from the nets before it.
+    pub(crate) fn value<S: Signal + Copy>(self, gate: Gate, nets: &[S; 256]) -> S
+        requires reads_nets { all_below 256 (pins_of gate) ≡ true }
+        ensures is_the_nets_value { result ≡ gate_net S.Signal.operations self.stuck nets.now self.net gate }
+    {
+        let function = gate.function;
+        let joined = match gate.operands {
+            Operands::None => no_pin(function),
+            Operands::One(a) => self.pin(0, nets, a),
+            Operands::Two(a, b) => {
+                let first = self.pin(0, nets, a);
+                let second = self.pin(1, nets, b);
+                join(function, first, second)
+            }
+        };
+        self.unless_stuck(sticks_net(self.stuck, self.net), end(function, joined))
+    }
 }

@@ -10,7 +10,7 @@ ghost use Rattle.signal.specs.Walks.{entered, net_values};
 
 use crate::kind::Signal;
 use crate::line::{Line, Stuck};
-use crate::value::gate_value;
+use crate::value::Site;
 use card::netlist::Card;
 
 // Puts the stuck level in the place of an input that sticks.
@@ -20,12 +20,11 @@ fn enter_stuck_input<S: Signal + Copy>(inputs: usize, stuck: Option<Stuck>, nets
     ensures inputs_are_entered { take inputs nets.new ≡ entered S.Signal.operations stuck 0 (take inputs nets.old) }
     ensures entries_behind_the_inputs_stay { drop inputs nets.new ≡ drop inputs nets.old }
 {
-    if let Some(fault) = stuck {
-        if let Line::Net(net) = fault.line {
-            if (net as usize) < inputs {
-                nets[net as usize] = S::constant(fault.level);
-            }
-        }
+    if let Some(fault) = stuck
+        && let Line::Net(net) = fault.line
+        && (net as usize) < inputs
+    {
+        nets[net as usize] = S::constant(fault.level);
     }
 }
 
@@ -44,6 +43,6 @@ pub fn walk<S: Signal + Copy>(card: &Card, stuck: Option<Stuck>, nets: &mut [S; 
     enter_stuck_input(inputs, stuck, nets);
     for (i, gate) in card.gates().iter().enumerate() {
         let net = inputs + i;
-        nets[net] = gate_value(*gate, stuck, nets, net);
+        nets[net] = Site { stuck, net }.value(*gate, nets);
     }
 }

@@ -7,6 +7,7 @@ use Rattle.solving.specs.Trials.{Answer, found, none, undecided, while, step, or
 use Rattle.solving.specs.Backtracking.{lowest_open, to_zero}
 use Rattle.solving.specs.Counting.{settings, if_set, if_whole, tried, try_each}
 use Rattle.solving.specs.declared.verdict.Verdict.{Verdict}
+use Rattle.solving.specs.declared.verdict.Verdict.TheVariants.{Found, None as Unsatisfiable, Undecided}
 use Rattle.solving.proofs.Places.{open_some, open_inside}
 use Rattle.solving.proofs.Costs.{lowest_law}
 use Rattle.solving.proofs.Tallies.{settings_length}
@@ -58,3 +59,9 @@ module _ (cs : List (List ℤ)) (v k budget : ℕ) where
 -- as many variables, under another name
 pub tried_as : (cs : List (List ℤ)) (u v : ℕ) (bs : List Bool) (s : ℕ) (answer : Answer) → u ≡ v → tried cs u bs s ≡ answer → tried cs v bs s ≡ answer
 tried_as cs u v bs s answer e h = sym (ap (λ n. tried cs n bs s) e) ∙ h
+
+-- an answer other than none ends the loop
+pub settled : (r : Verdict) (s : ℕ) (b : Setting) (next : ℕ → Answer) → (r ≡ Unsatisfiable → ⊥) → or_else (meant r s b) next ≡ meant r s b
+settled Found s b next h = refl
+settled Unsatisfiable s b next h = absurd (h refl)
+settled Undecided s b next h = refl

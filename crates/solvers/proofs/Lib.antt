@@ -5,3 +5,4 @@ pub mod Stored
 pub mod Verdicts
 pub mod Numbered
 pub mod Counted
+pub mod Opened

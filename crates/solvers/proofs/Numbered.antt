@@ -1,7 +1,7 @@
 -- The settings of the leading variables by number: each stands at its number, and written over open variables it leads.
-use Rattle.std.proofs.Common.{◌≡◌, ℕ, zero, suc, ◌+◌, ◌-◌, ◌*◌, ◌/◌, ◌^◌, ◌<◌, ◌≤◌, Bool, true, false, cond, leb, List, [], ◌∷◌, ◌++◌, map, length, get_or, drop, set, replicate, Some, None, sym, refl, ap, ◌∙◌, ap₂, append_assoc, not-suc-le-zero, pow-suc, add-one, arith, length-append, leb-false, leb-true}
+use Rattle.std.proofs.Common.{◌≡◌, ℕ, zero, suc, ◌+◌, ◌-◌, ◌*◌, ◌/◌, ◌^◌, ◌<◌, ◌≤◌, Bool, true, false, cond, leb, List, [], ◌∷◌, ◌++◌, map, length, get_or, drop, set, replicate, Some, None, sym, refl, ap, ◌∙◌, ap₂, append_assoc, not-suc-le-zero, pow-suc, add-one, arith, length-append, length-set, leb-false, leb-true}
 use lib.ListN.{length-map, get_or-map}
-use Rattle.std.proofs.lemmas.List.{get_or_append_left, get_or-append_right, get_or_default, set_at, drop_more}
+use Rattle.std.proofs.lemmas.List.{get_or_append_left, get_or-append_right, get_or_default, set_at, set-append_left, drop_more}
 use Rattle.solving.specs.Settings.{Setting, full}
 use Rattle.solving.specs.Leading.{leads}
 use Rattle.solving.specs.Counting.{settings}
@@ -74,3 +74,11 @@ half_power weight n k w e =
     let p : 2 ^ n ≡ 2 ^ suc k = ap (λ m. 2 ^ m) e in
     let q : 2 ^ suc k ≡ 2 ^ k * 2 = rw pow-suc (omega arith) in
     omega arith
+
+-- bits written over the first places leave the others as they are
+pub written_front : (a b : Setting) (j : ℕ) (bs : List Bool) → j + length bs ≤ length a → written (a ++ b) j bs ≡ written a j bs ++ b
+written_front a b j [] h = refl
+written_front a b j (x ∷ bs) h =
+    let n : length (set a j (Some x)) ≡ length a = length-set a j (Some x) in
+    ap (λ (y : Setting). written y (suc j) bs) (set-append_left a b j (Some x) (omega arith))
+    ∙ written_front (set a j (Some x)) b (suc j) bs (omega (arith, n, h))

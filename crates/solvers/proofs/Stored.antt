@@ -1,7 +1,7 @@
 -- The row of literals: what appending a clause adds to the clauses, the places that they use, and the range of literals.
-use Rattle.std.proofs.Common.{◌≡◌, ℕ, zero, suc, ◌+◌, ◌-◌, ◌<◌, ◌≤◌, Bool, true, false, cond, ◌&&◌, leb, List, [], ◌∷◌, ◌++◌, length, get_or, take, drop, ℤ, pos, None, sym, refl, ap, ◌∙◌, ap₂, le_of_suc-le-suc, not-suc-le-zero, add-one, arith, length-drop, drop_of_length-le, length-take, drop-cons, eq-eqb, eqb-true, le-leb, leb-true}
+use Rattle.std.proofs.Common.{◌≡◌, ℕ, ◌+◌, ◌-◌, ◌<◌, ◌≤◌, Bool, true, false, cond, ◌&&◌, leb, List, [], ◌∷◌, ◌++◌, length, get_or, take, drop, ℤ, pos, None, sym, refl, ap, ◌∙◌, ap₂, add-one, arith, length-drop, drop_of_length-le, length-take, drop-cons, eq-eqb, eqb-true, le-leb, leb-true}
 use mathlib.Core.Bool.{false≢true}
-use Rattle.std.proofs.lemmas.List.{take_all, drop_at, take-append-le}
+use Rattle.std.proofs.lemmas.List.{take_all, drop_at, drop-append-le, take-append-le}
 use Rattle.solving.specs.Literals.{in_range, all_in_range, places}
 use Rattle.solving.specs.Models.{Model, begun, startable}
 use Rattle.propagation.specs.Scanning.{clauses_from, Ends, ends_well}
@@ -26,15 +26,10 @@ pub ends_more : (n m from : ℕ) (ends : List ℕ) → n ≤ m → ends_well n f
 ends_more n m from [] h e = let f = eqb-true from n e in ap₂ ◌&&◌ (le-leb from m (omega arith)) (eq-eqb m m refl)
 ends_more n m from (x ∷ ends) h e = ap₂ ◌&&◌ (and_left (leb from x) (ends_well n x ends) e) (ends_more n m x ends h (and_right (leb from x) (ends_well n x ends) e))
 
-drop_append : (n : ℕ) (s t : List ℤ) → n ≤ length s → drop n (s ++ t) ≡ drop n s ++ t
-drop_append zero s t h = refl
-drop_append (suc n) [] t h = absurd (not-suc-le-zero h)
-drop_append (suc n) (x ∷ s) t h = drop_append n s t (le_of_suc-le-suc h)
-
 -- what stands between two places of a row stands there in a longer one
 part_kept : (row c : List ℤ) (from e : ℕ) → from ≤ e → e ≤ length row → take (e - from) (drop from (row ++ c)) ≡ take (e - from) (drop from row)
 part_kept row c from e h g =
-    ap (take (e - from)) (drop_append from row c (omega arith)) ∙ take-append-le (e - from) (drop from row) c (simp length-drop (omega arith))
+    ap (take (e - from)) (drop-append-le from row c (omega arith)) ∙ take-append-le (e - from) (drop from row) c (simp length-drop (omega arith))
 
 pub clauses_more : (row c : List ℤ) (from m : ℕ) (ends : List ℕ) → m ≡ length row + length c → Ends row from ends → clauses_from (row ++ c) from (ends ++ (m ∷ [])) ≡ clauses_from row from ends ++ (c ∷ [])
 unfolding clauses_from
@@ -92,6 +87,3 @@ start_leads v k e = leb-true k v (and_left (leb k v) (leb v 560) (and_right (leb
 
 pub start_some : (v k : ℕ) → startable v k ≡ true → 1 ≤ k
 start_some v k e = leb-true 1 k (and_left (leb 1 k) (leb k 32) (and_left (leb 1 k && leb k 32) (leb k v && leb v 560) e))
-
-pub start_few : (v k : ℕ) → startable v k ≡ true → k ≤ 32
-start_few v k e = leb-true k 32 (and_right (leb 1 k) (leb k 32) (and_left (leb 1 k && leb k 32) (leb k v && leb v 560) e))

@@ -1,5 +1,6 @@
 -- The trail: what growing and unwinding it leaves of the frames of earlier decisions.
-use Rattle.std.proofs.Common.{◌≡◌, ℕ, zero, suc, ◌+◌, ◌<◌, ◌≤◌, Bool, false, List, [], ◌∷◌, ◌++◌, length, take, drop, set, ℤ, None, Option, sym, refl, ap, ◌∙◌, ap₂, le_of_suc-le-suc, not-suc-le-zero, arith, length-set, take-append-drop, length-take}
+use Rattle.std.proofs.Common.{◌≡◌, ℕ, zero, suc, ◌+◌, ◌<◌, ◌≤◌, false, List, [], ◌∷◌, ◌++◌, length, take, drop, set, ℤ, None, sym, refl, ap, ◌∙◌, ap₂, arith, length-set, take-append-drop, length-take}
+use Rattle.std.proofs.lemmas.List.{drop-append-le, take-append-le}
 use Rattle.solvers.specs.declared.decision.Decision.{Decision}
 use Rattle.solving.specs.Settings.{Setting, open_in}
 use Rattle.solving.specs.Literals.{place}
@@ -8,13 +9,8 @@ use Rattle.propagation.specs.Trails.{unmade, unmade_all}
 use Rattle.solvers.specs.Trails.{frame_at, frames_of, Rising}
 use Rattle.propagation.proofs.Trailing.{unmade_append}
 
-drop_append : (n : ℕ) (s t : List ℤ) → n ≤ length s → drop n (s ++ t) ≡ drop n s ++ t
-drop_append zero s t h = refl
-drop_append (suc n) [] t h = absurd (not-suc-le-zero h)
-drop_append (suc n) (x ∷ s) t h = drop_append n s t (le_of_suc-le-suc h)
-
 frame_grown : (b : Setting) (s more : List ℤ) (c : Decision) → c.at ≤ length s → frame_at b (s ++ more) c ≡ frame_at (unmade_all b more) s c
-frame_grown b s more c h = ap (λ (x : Setting). record { base = x; choice = record { var = c.var; bit = false } }) (ap (unmade_all b) (drop_append c.at s more h) ∙ unmade_append b (drop c.at s) more)
+frame_grown b s more c h = ap (λ (x : Setting). record { base = x; choice = record { var = c.var; bit = false } }) (ap (unmade_all b) (drop-append-le c.at s more h) ∙ unmade_append b (drop c.at s) more)
 
 rising_low : (low high : ℕ) (cs : List Decision) → Rising low high cs → low ≤ high
 rising_low low high [] r = r
@@ -63,19 +59,9 @@ pub open_unmade : (a : Setting) (k : ℕ) (t : List ℤ) → open_in k (unmade_a
 open_unmade a k [] = omega arith
 open_unmade a k (l ∷ t) = let h = open_unmade a k t in let g = open_unset (unmade_all a t) k (place l) in omega arith
 
-take_left : (n : ℕ) (s t : List ℤ) → n ≤ length s → take n (s ++ t) ≡ take n s
-take_left zero s t h = refl
-take_left (suc n) [] t h = absurd (not-suc-le-zero h)
-take_left (suc n) (x ∷ s) t h = ap (λ (r : List ℤ). x ∷ r) (take_left n s t (le_of_suc-le-suc h))
-
 -- one literal off the trail
 pub unwind_values : (v : Setting) (t s : List ℤ) (l : ℤ) (to : ℕ) → t ≡ s ++ (l ∷ []) → to ≤ length s → unmade_all (unmade v l) (drop to s) ≡ unmade_all v (drop to t)
-unwind_values v t s l to e h = sym (ap (λ (x : List ℤ). unmade_all v (drop to x)) e ∙ ap (unmade_all v) (drop_append to s (l ∷ []) h) ∙ unmade_append v (drop to s) (l ∷ []))
+unwind_values v t s l to e h = sym (ap (λ (x : List ℤ). unmade_all v (drop to x)) e ∙ ap (unmade_all v) (drop-append-le to s (l ∷ []) h) ∙ unmade_append v (drop to s) (l ∷ []))
 
 pub unwind_trail : (t s : List ℤ) (l : ℤ) (to : ℕ) → t ≡ s ++ (l ∷ []) → to ≤ length s → take to s ≡ take to t
-unwind_trail t s l to e h = sym (ap (take to) e ∙ take_left to s (l ∷ []) h)
-
-pub set_past : (a : Setting) (j : ℕ) (x : Option Bool) → length a ≤ j → set a j x ≡ a
-set_past [] j x h = refl
-set_past (y ∷ a) zero x h = absurd (not-suc-le-zero h)
-set_past (y ∷ a) (suc j) x h = ap (λ (r : Setting). y ∷ r) (set_past a j x (le_of_suc-le-suc h))
+unwind_trail t s l to e h = sym (ap (take to) e ∙ take-append-le to s (l ∷ []) h)

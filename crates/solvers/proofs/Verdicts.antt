@@ -1,5 +1,6 @@
--- What a verdict stands for, back from the definition's answer.
-use Rattle.std.proofs.Common.{◌≡◌, ℕ, Bool, cond, Some, None, sym, refl, ap, ◌∙◌}
+-- What a verdict stands for, back from the definition's answer; and what is known where a result is told by `is_err`.
+use Rattle.std.proofs.Common.{◌≡◌, ℕ, Bool, true, false, cond, Some, None, Ok, Err, OnOk, OnErr, is_err, Result, sym, refl, ap, ◌∙◌}
+use mathlib.Core.Bool.{false≢true}
 use Rattle.solving.specs.Settings.{Setting, reading_of}
 use Rattle.solving.specs.Models.{Model, reads}
 use Rattle.solving.specs.Answers.{Answers}
@@ -34,3 +35,11 @@ concluded m n r b answer f e q g =
 -- the promises, from an answer that is the definition's
 pub answers_as : (m n : Model) (budget : ℕ) (r : Solved) (answer : Answer) → r ≡ told answer → n ≡ after m answer → Answers m budget (told answer) (after m answer) → Answers m budget r n
 answers_as m n budget r answer p q h = rw (p, q) h
+
+pub holds_of_err : {T E P : Type 0} (r : Result T E) (b : Bool) → b ≡ is_err r → b ≡ true → OnErr r P → P
+holds_of_err (Ok x) b e t h = absurd (false≢true (sym e ∙ t))
+holds_of_err (Err x) b e t h = h
+
+pub holds_of_ok : {T E P : Type 0} (r : Result T E) (b : Bool) → b ≡ is_err r → b ≡ false → OnOk r P → P
+holds_of_ok (Ok x) b e t h = h
+holds_of_ok (Err x) b e t h = absurd (false≢true (sym t ∙ e))

@@ -18,12 +18,7 @@ fn in_range(literal: i16, variables: usize) -> bool
 fn all_in_range(clause: &[i16], variables: usize) -> bool
     ensures tells_literals_in_range { result ≡ all_in_range variables clause.now }
 {
-    for i in 0..clause.len() {
-        if !in_range(clause[i], variables) {
-            return false;
-        }
-    }
-    true
+    clause.iter().all(|&literal| in_range(literal, variables))
 }
 
 impl Store {

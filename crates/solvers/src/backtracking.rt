@@ -11,14 +11,15 @@ use crate::backtrack::backtrack;
 use crate::decision::Decision;
 use crate::outcome::is_found;
 use crate::store::Store;
-use propagation::{Clauses, Index, Stack};
+use propagation::{Index, Stack};
 use solving::{AppendFault, Solved, Solver, StartFault, ValueFault};
 use std::alloc::{AllocError, Global};
 use ways::Answering;
 
 mod clauses;
 
-// Both stacks over what is lent, from every variable open.
+// Both stacks over what is lent, from every variable open. What goes round a search is three calls here as in counting; one function
+// for both would need a closure that takes the lists and the values that it lends.
 fn run(
     store: &mut Store,
     index: &mut Index,
@@ -32,13 +33,7 @@ fn run(
     ensures leaves_as_defined { model_of store.new ≡ after (model_of store.old) (backtracked (model_of store.old) budget) }
 {
     store.reopen();
-    index.fill(&store.literals, &store.ends);
-    let clauses = Clauses {
-        literals: &store.literals,
-        ends: &store.ends,
-        lasts: &index.lasts,
-        places: &index.places,
-    };
+    let clauses = index.fill(&store.literals, &store.ends);
     let mut trail = Stack::new(places);
     let mut decisions = Stack::new(records);
     let solved = backtrack(

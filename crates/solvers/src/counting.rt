@@ -10,7 +10,7 @@ ghost use Rattle.solvers.specs.Stores.{model_of};
 use crate::count::count;
 use crate::outcome::is_found;
 use crate::store::Store;
-use propagation::{Clauses, Index};
+use propagation::Index;
 use solving::{AppendFault, Solved, Solver, StartFault, ValueFault};
 use std::alloc::{AllocError, Global};
 use ways::Answering;
@@ -22,14 +22,8 @@ fn run(store: &mut Store, index: &mut Index, places: &mut [i16], budget: u64) ->
     ensures leaves_as_defined { model_of store.new ≡ after (model_of store.old) (counted (model_of store.old) budget) }
 {
     store.reopen();
-    index.fill(&store.literals, &store.ends);
-    let clauses = Clauses {
-        literals: &store.literals,
-        ends: &store.ends,
-        lasts: &index.lasts,
-        places: &index.places,
-    };
-    let leading = store.leading;
+    let leading = store.leading();
+    let clauses = index.fill(&store.literals, &store.ends);
     let solved = count(clauses, &mut store.values, places, leading, budget);
     store.read = is_found(solved.verdict);
     solved

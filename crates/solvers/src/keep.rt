@@ -1,9 +1,10 @@
-// The calls of a store: start and value as the interface of a solver has them, and opening every variable before a search.
+// The calls of a store: start and value as the interface of a solver has them, its leading variables, and opening every variable before a search.
 ghost use Rattle.std.specs.Prelude.{◌≡◌, replicate, is_ok, IfOk, if◌then◌else◌, None, vec_len};
 ghost use Rattle.solving.specs.Models.{fresh, begun, reads, startable};
 ghost use Rattle.solving.specs.Refusals.{started, valued};
 ghost use Rattle.solvers.specs.Stores.{model_of};
 
+use crate::leading::Leading;
 use crate::store::Store;
 use propagation::literal::bit_of;
 use solving::{StartFault, ValueFault};
@@ -53,6 +54,15 @@ impl Store {
             return Err(ValueFault::Reading);
         }
         Ok(bit_of(self.values[j - 1]))
+    }
+
+    // How many of its variables lead.
+    pub fn leading(&self) -> Leading
+        ensures has_the_number { result.count ≡ self.now.leading }
+    {
+        Leading {
+            count: self.leading,
+        }
     }
 
     // Opens every variable, and drops the reading.

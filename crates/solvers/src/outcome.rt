@@ -7,9 +7,5 @@ use solving::Verdict;
 pub fn is_found(verdict: Verdict) -> bool
     ensures tells_found { result ≡ is_found verdict }
 {
-    match verdict {
-        Verdict::Found => true,
-        Verdict::None => false,
-        Verdict::Undecided => false,
-    }
+    verdict == Verdict::Found
 }

@@ -8,10 +8,11 @@ ghost use Rattle.propagation.specs.Scanning.{ends_well};
 pub struct Store {
     pub(super) variables: usize,
     pub(super) leading: usize,
+    // One row, and where each clause of it ends: all of it is reserved when a solver is opened, as no list of lists could be.
     pub(super) literals: Vec<i16>,
     pub(super) ends: Vec<usize>,
     pub(super) values: Vec<Option<bool>>,
-    // Whether the values are a reading.
+    // Whether the values are a reading: a flag beside them, since their memory stays reserved where there is none.
     pub(super) read: bool,
     ghost sized: { startable variables leading ≡ true },
     ghost ended: { ends_well (vec_len literals) 0 ends.items ≡ true },

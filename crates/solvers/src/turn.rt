@@ -15,13 +15,7 @@ use propagation::trail::make;
 pub fn lowest_open(values: &[Option<bool>]) -> Option<usize>
     ensures is_the_lowest { result ≡ lowest_open values.now }
 {
-    for j in 0..values.len() {
-        match values[j] {
-            None => return Some(j),
-            Some(_) => {}
-        }
-    }
-    None
+    values.iter().position(|value| value.is_none())
 }
 
 // Takes the latest literal off the trail, and opens its variable.
@@ -33,6 +27,7 @@ fn undo(values: &mut [Option<bool>], trail: &mut Stack<i16>)
 {
     if let Some(literal) = trail.pop() {
         let j = place_of(literal);
+        // A test and an index: `get_mut` says nothing of what the slice ends as.
         if j < values.len() {
             values[j] = None;
         }
@@ -47,6 +42,7 @@ fn unwind(values: &mut [Option<bool>], trail: &mut Stack<i16>, to: usize)
     ensures len { trail.new.len ≡ to }
     ensures space { room trail.new ≡ room trail.old }
 {
+    // By hand: the trail shrinks while it is walked.
     while trail.len() > to {
         undo(values, trail);
     }

@@ -6,24 +6,15 @@ use Rattle.solving.specs.Literals.{place, wants}
 use Rattle.solving.specs.States.{State, broken, unit, other, joined, state_of}
 use Rattle.solving.specs.Readings.{holds, satisfies}
 use Rattle.solving.specs.Closing.{or_unit, first_unit, or_broken, violated, onward, units}
-use Rattle.solving.proofs.Places.{some_none, none_some, some_inj, beq_true, value_kept, set_within, set_grows, open_inside, open_falls, full_at, within_refl, within_trans}
-
-pub broken_unit : {l : ℤ} → broken ≡ unit l → ⊥
-broken_unit {l} e = let z : ◌≡◌ {A = ℕ} 0 1 = cc in omega arith
-
-pub other_unit : {l : ℤ} → other ≡ unit l → ⊥
-other_unit {l} e = let z : ◌≡◌ {A = ℕ} 0 1 = cc in omega arith
-
-pub other_broken : other ≡ broken → ⊥
-other_broken e = let z : ◌≡◌ {A = ℕ} 0 1 = cc in omega arith
+use Rattle.solving.proofs.Places.{none_some, some_inj, beq_true, value_kept, set_within, set_grows, open_inside, open_falls, full_at, within_refl, within_trans}
 
 -- a clause that is false throughout stays so
 broken_step : (a t : Setting) (l : ℤ) (c : List ℤ) → Within a t → (state_of a c ≡ broken → state_of t c ≡ broken) → (o : Option Bool) → value a l ≡ o → (s : State) → state_of a c ≡ s → joined o l s ≡ broken → joined (value t l) l (state_of t c) ≡ broken
-broken_step a t l c w rest (Some true) eo s es h = absurd (other_broken h)
+broken_step a t l c w rest (Some true) eo s es h = absurd (cc)
 broken_step a t l c w rest (Some false) eo s es h = rw (value_kept a t l false w eo) (rest (es ∙ h))
-broken_step a t l c w rest None eo broken es h = absurd (broken_unit (sym h))
-broken_step a t l c w rest None eo (unit m) es h = absurd (other_broken h)
-broken_step a t l c w rest None eo other es h = absurd (other_broken h)
+broken_step a t l c w rest None eo broken es h = absurd (cc)
+broken_step a t l c w rest None eo (unit m) es h = absurd (cc)
+broken_step a t l c w rest None eo other es h = absurd (cc)
 
 pub broken_kept : (a t : Setting) (c : List ℤ) → Within a t → state_of a c ≡ broken → state_of t c ≡ broken
 broken_kept a t [] w e = refl
@@ -31,26 +22,26 @@ broken_kept a t (l ∷ c) w e = broken_step a t l c w (broken_kept a t c w) (val
 
 -- the literal of a unit clause is open
 open_step : (a : Setting) (l m : ℤ) (c : List ℤ) → (state_of a c ≡ unit l → value a l ≡ None) → (o : Option Bool) → value a m ≡ o → (s : State) → state_of a c ≡ s → joined o m s ≡ unit l → value a l ≡ None
-open_step a l m c rest (Some true) eo s es h = absurd (other_unit h)
+open_step a l m c rest (Some true) eo s es h = absurd (cc)
 open_step a l m c rest (Some false) eo s es h = rest (es ∙ h)
 open_step a l m c rest None eo broken es h = let e : m ≡ l = cc in rw e at eo
-open_step a l m c rest None eo (unit n) es h = absurd (other_unit h)
-open_step a l m c rest None eo other es h = absurd (other_unit h)
+open_step a l m c rest None eo (unit n) es h = absurd (cc)
+open_step a l m c rest None eo other es h = absurd (cc)
 
 pub unit_open : (a : Setting) (l : ℤ) (c : List ℤ) → state_of a c ≡ unit l → value a l ≡ None
-unit_open a l [] e = absurd (broken_unit e)
+unit_open a l [] e = absurd (cc)
 unit_open a l (m ∷ c) e = open_step a l m c (unit_open a l c) (value a m) refl (state_of a c) refl e
 
 -- in a larger setting a unit clause is what its literal is
 unit_step : (a t : Setting) (l m : ℤ) (c : List ℤ) → Within a t → (state_of a c ≡ unit l → state_of t c ≡ joined (value t l) l broken) → (o : Option Bool) → value a m ≡ o → (s : State) → state_of a c ≡ s → joined o m s ≡ unit l → joined (value t m) m (state_of t c) ≡ joined (value t l) l broken
-unit_step a t l m c w rest (Some true) eo s es h = absurd (other_unit h)
+unit_step a t l m c w rest (Some true) eo s es h = absurd (cc)
 unit_step a t l m c w rest (Some false) eo s es h = rw (value_kept a t m false w eo) (rest (es ∙ h))
 unit_step a t l m c w rest None eo broken es h = let e : m ≡ l = cc in let f = broken_kept a t c w es in rw (e, f)
-unit_step a t l m c w rest None eo (unit n) es h = absurd (other_unit h)
-unit_step a t l m c w rest None eo other es h = absurd (other_unit h)
+unit_step a t l m c w rest None eo (unit n) es h = absurd (cc)
+unit_step a t l m c w rest None eo other es h = absurd (cc)
 
 pub unit_kept : (a t : Setting) (l : ℤ) (c : List ℤ) → Within a t → state_of a c ≡ unit l → state_of t c ≡ joined (value t l) l broken
-unit_kept a t l [] w e = absurd (broken_unit e)
+unit_kept a t l [] w e = absurd (cc)
 unit_kept a t l (m ∷ c) w e = unit_step a t l m c w (unit_kept a t l c w) (value a m) refl (state_of a c) refl e
 
 -- no clause false throughout and none unit
@@ -60,13 +51,13 @@ pub record Closed (cs : List (List ℤ)) (t : Setting) : Type 0 where
 
 pub whole_head : (s : State) (b : Bool) → or_broken s b ≡ false → (s ≡ broken → ⊥) × (b ≡ false)
 whole_head broken b e = absurd (true≢false e)
-whole_head (unit l) b e = (λ h. broken_unit (sym h), e)
-whole_head other b e = (λ h. other_broken h, e)
+whole_head (unit l) b e = (λ h. (cc), e)
+whole_head other b e = (λ h. (cc), e)
 
 pub still_head : (s : State) (o : Option ℤ) → or_unit s o ≡ None → ((l : ℤ) → s ≡ unit l → ⊥) × (o ≡ None)
-still_head broken o e = (λ l h. broken_unit h, e)
-still_head (unit l) o e = absurd (some_none e)
-still_head other o e = (λ l h. other_unit h, e)
+still_head broken o e = (λ l h. (cc), e)
+still_head (unit l) o e = absurd (cc)
+still_head other o e = (λ l h. (cc), e)
 
 pub true_left : (o : Option Bool) (l : ℤ) → (joined o l broken ≡ broken → ⊥) → ((m : ℤ) → joined o l broken ≡ unit m → ⊥) → o ≡ Some true
 true_left None l p q = absurd (q l refl)
@@ -103,7 +94,7 @@ pub value_open : (a : Setting) (l : ℤ) → value a l ≡ None → at a (place 
 value_open a l = go (at a (place l)) where
   go : (o : Option Bool) → worth o (wants l) ≡ None → o ≡ None
   go None e = refl
-  go (Some b) e = absurd (some_none e)
+  go (Some b) e = absurd (cc)
 
 pub value_true : (a : Setting) (l : ℤ) → value a l ≡ Some true → at a (place l) ≡ Some (wants l)
 value_true a l = go (at a (place l)) where

@@ -8,18 +8,18 @@ use Rattle.solving.specs.Leading.{leads, Led}
 use Rattle.solving.specs.Trials.{Answer, found, none, undecided, while, step, or_else}
 use Rattle.solving.specs.Backtracking.{Rule, Choice, unless_broken, chosen, both, descend, lowest_open, to_zero, later}
 use Rattle.solving.specs.SearchLaws.{Picks, Leads, Decided, Lowest, Settled}
-use Rattle.solving.proofs.Places.{some_none, none_some, some_inj, open_falls, open_inside, open_le, open_some}
+use Rattle.solving.proofs.Places.{none_some, some_inj, open_falls, open_inside, open_le, open_some}
 use Rattle.solving.proofs.Closed.{Closed, violated_kept}
 use Rattle.solving.proofs.Closures.{closure_within, closure_grows, closure_length, closed_closure}
 
 -- the lowest open variable
 later_none : (o : Option ℕ) → later o ≡ None → o ≡ None
 later_none None e = refl
-later_none (Some j) e = absurd (some_none e)
+later_none (Some j) e = absurd (cc)
 
 none_open : (a : Setting) → lowest_open a ≡ None → open_in (length a) a ≡ 0
 none_open [] e = refl
-none_open (None ∷ a) e = absurd (some_none e)
+none_open (None ∷ a) e = absurd (cc)
 none_open (Some b ∷ a) e = let h = none_open a (later_none (lowest_open a) e) in omega arith
 
 later_some : (o : Option ℕ) (j : ℕ) → later o ≡ Some j → (i : ℕ) × (o ≡ Some i) × (j ≡ suc i)
@@ -42,7 +42,7 @@ lowest_leads (Some b ∷ a) j (suc k) e h =
 
 to_zero_none : (o : Option ℕ) → to_zero o ≡ None → o ≡ None
 to_zero_none None e = refl
-to_zero_none (Some j) e = absurd (some_none e)
+to_zero_none (Some j) e = absurd (cc)
 
 to_zero_some : (o : Option ℕ) (c : Choice) → to_zero o ≡ Some c → o ≡ Some c.var
 to_zero_some None c e = absurd (none_some e)
@@ -197,7 +197,7 @@ pub lowest_at : (a : Setting) (j : ℕ) → ((k : ℕ) → k < j → get_or a k 
 lowest_at [] j h e l = absurd (not-suc-le-zero l)
 lowest_at (None ∷ a) zero h e l = refl
 lowest_at (None ∷ a) (suc j) h e l = absurd (h zero (omega arith) refl)
-lowest_at (Some b ∷ a) zero h e l = absurd (some_none e)
+lowest_at (Some b ∷ a) zero h e l = absurd (cc)
 lowest_at (Some b ∷ a) (suc j) h e l = ap later (lowest_at a j (λ k i. h (suc k) (omega arith)) e (le_of_suc-le-suc l))
 
 pub lowest_no : (a : Setting) (n : ℕ) → length a ≤ n → ((k : ℕ) → k < n → get_or a k None ≡ None → k < length a → ⊥) → lowest_open a ≡ None

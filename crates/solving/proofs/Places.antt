@@ -6,11 +6,8 @@ use lib.ListN.{get_or-map}
 use Rattle.solving.specs.Settings.{Setting, at, worth, value, open_one, open_in, Within, full, reading_of, bit_of}
 use Rattle.solving.specs.Literals.{place, wants}
 
-pub some_none : {A : Type 0} {x : A} → Some x ≡ None → ⊥
-some_none {x = x} e = let z : ◌≡◌ {A = ℕ} 0 1 = cc in omega arith
-
 pub none_some : {A : Type 0} {x : A} → None ≡ Some x → ⊥
-none_some e = some_none (sym e)
+none_some e = cc
 
 pub some_inj : {A : Type 0} {x y : A} → Some x ≡ Some y → x ≡ y
 some_inj e = cc
@@ -28,7 +25,7 @@ pub within_trans : (a b c : Setting) → Within a b → Within b c → Within a 
 within_trans a b c p q j x e = q j x (p j x e)
 
 pub open_inside : (a : Setting) (j : ℕ) → at a j ≡ None → j < length a
-open_inside [] j e = absurd (some_none e)
+open_inside [] j e = absurd (cc)
 open_inside (x ∷ a) zero e = omega arith
 open_inside (x ∷ a) (suc j) e = let h = open_inside a j e in omega arith
 
@@ -51,13 +48,13 @@ set_within a b j x w t o i y e = go (ℕ_discrete i j) where
 pub set_grows : (a : Setting) (j : ℕ) (x : Bool) → at a j ≡ None → Within a (set a j (Some x))
 set_grows a j x o i y e = go (ℕ_discrete i j) where
   go : Dec (i ≡ j) → at (set a j (Some x)) i ≡ Some y
-  go (yes p) = absurd (some_none (sym e ∙ ap (at a) p ∙ o))
+  go (yes p) = absurd (let q = ap (at a) p in cc)
   go (no p) = get_or-set_other a j i (Some x) (Some false) p ∙ e
 
 -- the count falls by one where an open variable is set
 pub open_falls : (a : Setting) (k j : ℕ) (x : Bool) → at a j ≡ None → j < k → suc (open_in k (set a j (Some x))) ≡ open_in k a
 open_falls a zero j x e h = absurd (not-suc-le-zero h)
-open_falls [] (suc k) j x e h = absurd (some_none e)
+open_falls [] (suc k) j x e h = absurd (cc)
 open_falls (y ∷ a) (suc k) zero x e h = let f : open_one y ≡ 1 = ap open_one e in omega arith
 open_falls (y ∷ a) (suc k) (suc j) x e h = let i = open_falls a k j x e (le_of_suc-le-suc h) in omega arith
 

@@ -5,32 +5,30 @@ ghost use Rattle.solving.specs.Refusals.{start_number, append_number, value_numb
 #[derive(Clone, Copy)]
 pub enum StartFault {
     // Not 1 ≤ k ≤ 32, or not k ≤ v ≤ 560.
-    Size,
+    Size = 19,
 }
 
 #[derive(Clone, Copy)]
 pub enum AppendFault {
     // A literal is 0, or its variable is above v.
-    Literal,
+    Literal = 20,
     // More than 9,216 places would be used.
-    Places,
+    Places = 21,
 }
 
 #[derive(Clone, Copy)]
 pub enum ValueFault {
     // No such variable.
-    Variable,
+    Variable = 22,
     // There is no reading.
-    Reading,
+    Reading = 23,
 }
 
 impl StartFault {
     pub fn number(self) -> u8
         ensures is_the_start_faults_number { result ≡ start_number self }
     {
-        match self {
-            StartFault::Size => 19,
-        }
+        self as u8
     }
 }
 
@@ -38,10 +36,7 @@ impl AppendFault {
     pub fn number(self) -> u8
         ensures is_the_append_faults_number { result ≡ append_number self }
     {
-        match self {
-            AppendFault::Literal => 20,
-            AppendFault::Places => 21,
-        }
+        self as u8
     }
 }
 
@@ -49,9 +44,6 @@ impl ValueFault {
     pub fn number(self) -> u8
         ensures is_the_value_faults_number { result ≡ value_number self }
     {
-        match self {
-            ValueFault::Variable => 22,
-            ValueFault::Reading => 23,
-        }
+        self as u8
     }
 }

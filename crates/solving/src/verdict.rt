@@ -1,6 +1,6 @@
 // What a solver answers of its formula.
 
-#[derive(Clone, Copy)]
+#[derive(Clone, Copy, PartialEq, Eq)]
 pub enum Verdict {
     // A reading satisfies every clause; the solver holds it.
     Found,

@@ -1,7 +1,7 @@
 -- Characters written one after the other into a buffer, each read from the nets of the walk.
 use Rattle.std.proofs.Common.{◌≡◌, ℕ, ◌+◌, ◌<◌, ◌≤◌, List, ◌∷◌, ◌++◌, length, get_or, take, drop, set, sym, ap, ◌∙◌, arith}
 use lib.Seq.{append_snoc}
-use Rattle.std.proofs.lemmas.List.{drop_more, get_or_default, get_or-map, length-map, length-take-le, set_at, take_all, take_more}
+use Rattle.std.proofs.lemmas.List.{drop_more, get_or_default, get_or-map, length-map, length-take-le, set_at, take_more}
 use Rattle.card.specs.Netlists.{Lawful, Netlist, nets}
 use Rattle.signal.specs.declared.ternary.Ternary.{Ternary}
 use Rattle.signal.specs.declared.ternary.Ternary.TheVariants.{X}
@@ -9,7 +9,6 @@ use Rattle.signal.proofs.Below.{output_below, output_read}
 use Rattle.vectors.specs.Rows.{character_of}
 use Rattle.vectors.specs.Vectors.{Cells}
 use Rattle.tester.specs.Characters.{characters, good_nets}
-use Rattle.tester.specs.Expecting.{over}
 
 -- one byte more is written over the buffer
 pub over_more : (shown before now : List ℕ) (i x : ℕ) → now ≡ take i shown ++ drop i before → i < length shown → length shown ≤ length before → x ≡ get_or shown i 0 → set now i x ≡ take (i + 1) shown ++ drop (i + 1) before
@@ -19,10 +18,6 @@ over_more shown before now i x w h l e =
     ∙ ap (λ z. take i shown ++ (z ∷ drop (i + 1) before)) e
     ∙ sym (append_snoc (take i shown) (get_or shown i 0) (drop (i + 1) before))
     ∙ ap (λ z. z ++ drop (i + 1) before) (sym (take_more shown i 0 h))
-
--- all are written
-pub over_all : (shown before now : List ℕ) (i : ℕ) → now ≡ take i shown ++ drop i before → i ≡ length shown → now ≡ over shown before
-over_all shown before now i w e = w ∙ ap (λ z. take z shown ++ drop z before) e ∙ ap (λ z. z ++ drop (length shown) before) (take_all (length shown) shown (omega arith))
 
 -- as many characters as outputs
 pub length_characters : (c : Netlist) (v : Cells) → length (characters c v) ≡ length c.outputs

@@ -41,6 +41,7 @@ pub fn expect(heap: Global, bytes: &[u8], care: u32, value: u32, out: &mut [u8])
     ensures one_hundred_is_want_of_memory_for_a_lawful_card { result ≡ 100 → (n : Netlist) × Accepted bytes.now n }
     ensures a_refusal_leaves_the_buffer { 100 ≤ result → out.new ≡ out.old }
 {
+    // One number for the count and for a refusal, since C has no Result.
     match expect_from_bytes(heap, bytes, care, value, out) {
         Ok(count) => count as u32,
         Err(fault) => 100 + fault.number() as u32,

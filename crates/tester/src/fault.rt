@@ -23,6 +23,7 @@ impl TesterFault {
         ensures is_the_refusals_number { result ≡ tester_number self }
         ensures at_most_twenty_five { result ≤ 25 }
     {
+        // A match: a fault that carries another has the number of that one.
         match self {
             TesterFault::Card(fault) => fault.number(),
             TesterFault::Vector(fault) => fault.number(),

@@ -20,12 +20,14 @@ fn show(card: &Card, vector: &Vector, nets: &[Ternary; 256], out: &mut [u8])
     requires room { length (netlist_of card.now).outputs ≤ length out.old }
     ensures writes_the_characters { out.new ≡ over (characters (netlist_of card.now) (cells_of vector.now)) out.old }
 {
+    // By index: after a zip with iter_mut nothing is known of the buffer's bytes.
     for (i, net) in card.outputs().iter().enumerate() {
         out[i] = character(nets[*net as usize]);
     }
 }
 
 // The expected outputs: one character 0, 1 or X for each, from output 0, and how many there are.
+// A lent buffer and a count, since the call for C fills the same buffer.
 pub fn expected_outputs(card: &Card, vector: &Vector, out: &mut [u8]) -> Result<usize, TesterFault>
     ensures refused_exactly_for_want_of_room { is_ok result ≡ nat_le (length (netlist_of card.now).outputs) (length out.old) }
     ensures answers_how_many_or_names_the_refusal { MatchResult result (λ m. m ≡ length (netlist_of card.now).outputs) (λ e. e ≡ Room) }

@@ -8,8 +8,8 @@ ghost use Rattle.two_solvers.specs.Joining.{Joined};
 
 use job::{Job, Ticket};
 use requests::{Reply, Request, run};
-use std::alloc::{AllocError, Global};
 use solvers::{Backtracking, Counting};
+use std::alloc::{AllocError, Global};
 use ways::Answering;
 
 // What the requests of each run got.

@@ -2,7 +2,7 @@
 use Rattle.std.proofs.Common.{◌≡◌, ℕ, zero, suc, ◌+◌, ◌-◌, ◌*◌, ◌/◌, ◌%◌, ◌^◌, ◌<◌, ◌≤◌, true, false, ◌&&◌, ◌||◌, eqb, ltb, ◌⊎◌, sym, refl, ap, ◌∙◌, inl, inr, ⊎_elim, mul_assoc, div-one, arith, pow_pos, pow-add, shr-shr}
 use native.Mathlib.Nat.{zero-div, div-eq_of_lt}
 use lib.Arith.{bin_ind}
-use lib.Bits.{bit_and, bit_or, and_shr, or_shr, and_mod, or_mod, and_mask, shifted_even}
+use lib.Bits.{bit_and, bit_or, and_shr, or_shr, and_mod, or_mod, shifted_even}
 use lib.Pow.{shl-shr, split}
 use Rattle.std.proofs.lemmas.Nat.{mod_below, div-add-mod'}
 use Rattle.std.proofs.lemmas.Bool.{cases_lt, eq-eqb, le-ltb, lt-ltb, ne_eqb}
@@ -53,10 +53,6 @@ bit_and_lem a b j = ap (λ (x : ℕ). eqb (x % 2) 1) (and_shr a b j) ∙ and_dig
 
 pub bit_or_lem : (a b j : ℕ) → bit_at (bit_or a b) j ≡ (bit_at a j || bit_at b j)
 bit_or_lem a b j = ap (λ (x : ℕ). eqb (x % 2) 1) (or_shr a b j) ∙ or_digit (a / 2 ^ j) (b / 2 ^ j)
-
--- the lowest bit by a mask
-pub bit_masked : (n j : ℕ) → eqb (bit_and (n / 2 ^ j) 1) 1 ≡ bit_at n j
-bit_masked n j = ap (λ (x : ℕ). eqb x 1) (and_mask (n / 2 ^ j) 1)
 
 -- ---- no bits, and a number shifted up
 

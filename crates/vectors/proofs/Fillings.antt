@@ -2,7 +2,7 @@
 use Rattle.std.proofs.Common.{◌≡◌, ℕ, zero, suc, ◌+◌, ◌<◌, ◌≤◌, Bool, true, false, List, [], ◌∷◌, ◌++◌, length, get_or, take, set, sym, refl, ap, ◌∙◌, subst, ap₂, add-one, arith}
 use Rattle.signal.specs.declared.ternary.Ternary.{Ternary}
 use Rattle.signal.specs.declared.ternary.Ternary.TheVariants.{X}
-use Rattle.std.proofs.lemmas.List.{take_more_set}
+use Rattle.std.proofs.lemmas.List.{take_all, take_at, take_more_set}
 use Rattle.signal.specs.Ternaries.{has}
 use Rattle.vectors.specs.Allowed.{AllowedBy}
 use Rattle.vectors.specs.Vectors.{Cells, bit_at, bits_from, cell_of, cell_at, cells_from, start, Fills, FilledByTheAllowed}
@@ -99,3 +99,9 @@ entered_more v nets j x h e p =
     take_more_set nets j x h
     ∙ ap₂ (λ (xs : List Ternary) (y : Ternary). xs ++ (y ∷ [])) p e
     ∙ sym (ap (λ (n : ℕ). start n v) (add-one j) ∙ start_more v j)
+
+-- all are entered
+pub entered_all : (v : Cells) (cells rest : List Ternary) (j k : ℕ) → take j cells ≡ start j v → length cells ≡ k → k ≤ j → j ≤ k → take k (cells ++ rest) ≡ start k v
+entered_all v cells rest j k p l h g =
+    let e : j ≡ k = omega arith in
+    take_at cells rest k l ∙ sym (take_all j cells (omega arith)) ∙ p ∙ ap (λ n. start n v) e

@@ -67,10 +67,6 @@ bit_without n j i = ⊎_elim
         (λ e. sym (kept (bit_at n i) (eqb i j) (ne_eqb i j e)))
         (cases_eq i j)
 
--- what the code computes where the bit is set
-pub without_set : (n j : ℕ) → bit_at n j ≡ true → 2 ^ j ≤ n
-without_set n j t = (less j n t).fits
-
 -- ---- cells
 
 cell_of_both : (x y e : Bool) → cell_of (x && not e) (y && not e) ≡ cond e X (cell_of x y)

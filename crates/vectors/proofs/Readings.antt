@@ -4,7 +4,7 @@ use lib.Bits.{bit_or}
 use Rattle.signal.specs.declared.ternary.Ternary.{Ternary}
 use Rattle.signal.specs.declared.ternary.Ternary.TheVariants.{Low, High, X}
 use Rattle.std.proofs.lemmas.Nat.{shl_whole}
-use Rattle.std.proofs.lemmas.List.{at_drop_all, at_drop_more, length-map, map_push, take_more}
+use Rattle.std.proofs.lemmas.List.{at_drop_more, length-map, map_push, take_more}
 use Rattle.std.proofs.lemmas.Bool.{and_from, and_right, cases_lt, eq-eqb, le-leb, or_from, or_parts}
 use Rattle.vectors.specs.Vectors.{Cells, holding, bit_at, cell_of, cell_at, start, InForm}
 use Rattle.vectors.specs.Rows.{character_of, is_character, all_characters, is_row, fixed_bit, level_bit, placed, printed}
@@ -78,9 +78,6 @@ level_under Low j i h = ap (λ (x : ℕ). bit_at x i) (zero-mul (2 ^ j)) ∙ bit
 level_under High j i h = h
 level_under X j i h = h
 
-pub in_form_none : InForm 0 (holding 0 0)
-in_form_none = record { within = λ j _. bit_of_zero j; free_is_zero = λ j _. bit_of_zero j }
-
 -- the inputs below j are read: the cell of input j joins them
 pub in_form_more : (v : Cells) (j : ℕ) (t : Ternary) → InForm j v → InForm (suc j) (placed v j t)
 in_form_more v j t f = record {
@@ -131,9 +128,3 @@ pub no_row_by_byte : (k : ℕ) (bs : List ℕ) (j : ℕ) → j < length bs → f
 no_row_by_byte k bs j h ch e =
     let f : all_characters bs ≡ false = sym e ∙ at_drop_more all_characters bs j 0 h ∙ ap (λ (x : Bool). x && all_characters (drop (j + 1) bs)) (sym ch) in
     sym (and_right (eqb (length bs) k) (leb k 32 && all_characters bs) (and_right (leb k 32) (all_characters bs) f))
-
--- all bytes are read
-pub a_row : (k : ℕ) (bs : List ℕ) (j : ℕ) → length bs ≡ k → k ≤ 32 → length bs ≤ j → all_characters (drop j bs) ≡ all_characters bs → true ≡ is_row k bs
-a_row k bs j l h g e =
-    sym (and_from (eqb (length bs) k) (leb k 32 && all_characters bs) (eq-eqb (length bs) k l)
-    (and_from (leb k 32) (all_characters bs) (le-leb k 32 h) (sym e ∙ at_drop_all all_characters bs j g)))

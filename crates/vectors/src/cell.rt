@@ -5,6 +5,7 @@ ghost use Rattle.vectors.specs.Vectors.{bit_at, cell_at};
 ghost use Rattle.vectors.specs.Views.{cells_of};
 
 use crate::vector::Vector;
+use signal::kind::Signal;
 use signal::ternary::Ternary;
 
 // The bit of a number at a place, which is 0 from 32 on.
@@ -19,12 +20,10 @@ impl Vector {
     pub fn cell(&self, input: usize) -> Ternary
         ensures is_the_inputs_cell { result ≡ cell_at (cells_of self.now) input }
     {
-        if !bit(self.care, input) {
-            Ternary::X
-        } else if bit(self.value, input) {
-            Ternary::High
+        if bit(self.care, input) {
+            Ternary::constant(bit(self.value, input))
         } else {
-            Ternary::Low
+            Ternary::X
         }
     }
 }

@@ -18,8 +18,8 @@ impl Vector {
         ensures its_value_bits_fill_it { Fills (netlist_of card.now).inputs (cells_of self.now) (bits_from (cells_of self.now).value 0 (netlist_of card.now).inputs) }
     {
         let inputs = card.inputs();
-        for j in 0..inputs {
-            nets[j] = self.cell(j);
+        for (j, net) in nets[..inputs].iter_mut().enumerate() {
+            *net = self.cell(j);
         }
     }
 }

@@ -5,7 +5,7 @@ ghost use Rattle.vectors.specs.Faults.{vector_refusal};
 #[derive(Clone, Copy)]
 pub enum VectorFault {
     // An input that the card does not have is fixed, or a free input has a bit.
-    NotInForm,
+    NotInForm = 16,
 }
 
 impl VectorFault {
@@ -13,8 +13,6 @@ impl VectorFault {
     pub fn number(self) -> u8
         ensures is_the_refusals_number { result ≡ vector_refusal self }
     {
-        match self {
-            VectorFault::NotInForm => 16,
-        }
+        self as u8
     }
 }

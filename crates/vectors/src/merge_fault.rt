@@ -5,7 +5,7 @@ ghost use Rattle.vectors.specs.Merging.{merge_refusal};
 #[derive(Clone, Copy)]
 pub enum MergeFault {
     // Some input is fixed to opposite bits.
-    OppositeBits,
+    OppositeBits = 18,
 }
 
 impl MergeFault {
@@ -13,8 +13,6 @@ impl MergeFault {
     pub fn number(self) -> u8
         ensures is_the_refusals_number { result ≡ merge_refusal self }
     {
-        match self {
-            MergeFault::OppositeBits => 18,
-        }
+        self as u8
     }
 }

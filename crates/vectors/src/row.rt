@@ -10,6 +10,7 @@ use crate::vector::Vector;
 use signal::ternary::Ternary;
 
 // The character of a cell.
+// Functions and no From or TryFrom: the type of a cell is of the crate of signals, which knows no characters.
 pub fn character(cell: Ternary) -> u8
     ensures is_the_cells_character { result ≡ character_of cell }
 {
@@ -37,20 +38,14 @@ fn cell_of(byte: u8) -> Option<Ternary>
 fn fixed(cell: Ternary) -> u32
     ensures is_one_if_fixed { result ≡ fixed_bit cell }
 {
-    match cell {
-        Ternary::Low | Ternary::High => 1,
-        Ternary::X => 0,
-    }
+    u32::from(cell != Ternary::X)
 }
 
 // The bit of a cell, 0 for a free one.
 fn level(cell: Ternary) -> u32
     ensures is_the_cells_bit { result ≡ level_bit cell }
 {
-    match cell {
-        Ternary::Low | Ternary::X => 0,
-        Ternary::High => 1,
-    }
+    u32::from(cell == Ternary::High)
 }
 
 // The vector of a row of characters, one for each of at most 32 inputs; None for any other bytes.

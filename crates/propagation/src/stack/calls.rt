@@ -29,7 +29,7 @@ impl<'a, T: Copy> Stack<'a, T> {
         entries[i]
     }
 
-    // Puts an entry last; false where the stack is full, which it then stays.
+    // Puts an entry last; false where the stack is full, which it then stays: it says so to whoever fills it.
     pub fn push(&mut self, x: T) -> bool
         ensures refuses_where_full { result ≡ nat_lt self.old.len (room self.old) }
         ensures holds_it_last { held self.new ≡ (if result then held self.old ++ (x ∷ []) else held self.old) }

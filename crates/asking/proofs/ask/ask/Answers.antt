@@ -23,18 +23,18 @@ returns-in-Found g c =
     let told : (reading : List Bool) → n.reading ≡ Some reading → length reading ≡ n.variables → k ≤ length reading → cells_of c.setting.result ≡ fixing (take k reading) =
     subst (λ (i : ℕ). (reading : List Bool) → n.reading ≡ Some reading → length reading ≡ n.variables → i ≤ length reading → cells_of c.setting.result ≡ fixing (take i reading)) c.inputs-inputs.ensures.counts_the_inputs c.setting.ensures.fixes_each_input_to_its_bit in
     let b = found_asked _ c.args.stuck c.args.budget c.answer-solved.result _ n (cells_of c.setting.result) (cells_of c.thin.result)
-    c.inputs-inputs.ensures.every_card_keeps_the_rules c.encode.ensures.formula_is_within_the_solvers_limits c.in-Found.is
+    c.args.card.now.lawful c.encode.ensures.formula_is_within_the_solvers_limits c.in-Found.is
     c.encode.ensures.solver_holds_exactly_the_formula c.answer-solved.ensures.answers told c.thin.ensures.tries_each_cell_in_rising_order in
     record { the_solver_was_asked_the_formula_and_answered_this = b.asked; the_solver_answered_in_its_own_way = own g (netlist_of c.args.card.now) c.args.stuck c.args.budget _ _ _ c.encode.ensures.solver_holds_exactly_the_formula c.answer-solved.ensures.in_its_own_way; the_outcome_is_true_of_the_fault = b.tells }
 
 pub returns-in-None : goal.returns-in-None
 returns-in-None g c =
     let b = other_asked _ c.args.stuck c.args.budget c.answer-solved.result _ _ Unsatisfiable
-    c.inputs-inputs.ensures.every_card_keeps_the_rules c.in-None.is c.encode.ensures.solver_holds_exactly_the_formula c.answer-solved.ensures.answers in
+    c.args.card.now.lawful c.in-None.is c.encode.ensures.solver_holds_exactly_the_formula c.answer-solved.ensures.answers in
     record { the_solver_was_asked_the_formula_and_answered_this = b.asked; the_solver_answered_in_its_own_way = own g (netlist_of c.args.card.now) c.args.stuck c.args.budget _ _ _ c.encode.ensures.solver_holds_exactly_the_formula c.answer-solved.ensures.in_its_own_way; the_outcome_is_true_of_the_fault = b.tells }
 
 pub returns-in-Undecided : goal.returns-in-Undecided
 returns-in-Undecided g c =
     let b = other_asked _ c.args.stuck c.args.budget c.answer-solved.result _ _ Undecided
-    c.inputs-inputs.ensures.every_card_keeps_the_rules c.in-Undecided.is c.encode.ensures.solver_holds_exactly_the_formula c.answer-solved.ensures.answers in
+    c.args.card.now.lawful c.in-Undecided.is c.encode.ensures.solver_holds_exactly_the_formula c.answer-solved.ensures.answers in
     record { the_solver_was_asked_the_formula_and_answered_this = b.asked; the_solver_answered_in_its_own_way = own g (netlist_of c.args.card.now) c.args.stuck c.args.budget _ _ _ c.encode.ensures.solver_holds_exactly_the_formula c.answer-solved.ensures.in_its_own_way; the_outcome_is_true_of_the_fault = b.tells }

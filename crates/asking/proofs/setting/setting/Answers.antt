@@ -1,4 +1,4 @@
-use Rattle.std.proofs.Common.{◌≡◌, ℕ, ◌+◌, ◌-◌, ◌*◌, Bool, true, false, cond, sym, refl, ◌∙◌, subst, arith}
+use Rattle.std.proofs.Common.{◌≡◌, ℕ, ◌+◌, ◌-◌, ◌*◌, Bool, true, false, cond, is_ok, Ok, Err, Result, sym, refl, ◌∙◌, subst, arith}
 use Rattle.std.proofs.lemmas.Bool.{false≢true}
 use mir.Facts.{Fits-bits}
 use mir.Val.{bool_byte}
@@ -8,6 +8,11 @@ use Rattle.asking.proofs.setting.setting.Goals as goal
 byte : (b : Bool) → bool_byte b ≡ cond b 1 0
 byte true = refl
 byte false = refl
+
+-- what was granted is there
+refuted : {T E : Type 0} (r : Result T E) → is_ok r ≡ true → ((x : T) → r ≡ Ok x → ⊥) → ⊥
+refuted (Ok x) t never = never x refl
+refuted (Err e) t never = false≢true t
 
 pub loop-j-init : goal.loop-j-init
 loop-j-init g c = weighing_none _ _
@@ -38,7 +43,7 @@ loop-j-preserved g c =
     (weighing_more _ _ (c.loop-j.j - 1) _ _ _ (omega arith) c.loop-j.auto.j c.loop-j.invariant c.bit.result c.bit.ensures.is_the_readings_bit)
 
 pub unreachable-requires : goal.unreachable-requires
-unreachable-requires g c = false≢true (c.in-Err.ensures.in_form_means_bit_by_bit.1 (weighing_in_form _ _ _ _ _ c.loop-j-test.false c.loop-j.invariant))
+unreachable-requires g c = refuted c.new.result (c.new.ensures.in_form_means_bit_by_bit.1 (weighing_in_form _ _ _ _ _ c.loop-j-test.false c.loop-j.invariant)) c.in_default.not-Ok
 
 pub returns : goal.returns
 returns g c = record { fixes_each_input_to_its_bit = λ reading e long fits. c.in-Ok.ensures.holds_both_numbers ∙ weighing_all _ _ _ _ _ c.loop-j-test.false c.loop-j.invariant reading e long fits }

@@ -1,4 +1,6 @@
 use Rattle.std.proofs.Common.{eqb, sym, ap, ◌∙◌}
+use Rattle.std.proofs.lemmas.Bool.Decides.{Decides-eqb}
+use Rattle.std.proofs.lemmas.Slice.Eq.{slice_eq-Decides}
 use Rattle.card.specs.Alikes.{same_gates}
 use Rattle.card.specs.Views.{netlist_of}
 use Rattle.card.proofs.Alikely.{alike_decides, alike_laws}
@@ -14,7 +16,7 @@ returns c =
     let h = c.gates-2.ensures.are_the_gates in
     let p = c.outputs.ensures.are_the_outputs in
     let q = c.outputs-2.ensures.are_the_outputs in
-    let d = c.same_outputs-outputs.ensures.says_whether_the_outputs_are_the_same in
+    let d = slice_eq-Decides Decides-eqb _ _ _ c.eq-outputs.ensures in
     record {
       says_whether_the_cards_are_alike = alike_decides a b _ _ _
           (ap (λ x. eqb x c.inputs-2.result) i ∙ ap (eqb a.inputs) j)

@@ -3,7 +3,7 @@ use Rattle.std.proofs.Common.{◌≡◌, sym, ap, ◌∙◌}
 use Rattle.std.proofs.lemmas.Bool.Decides.{Decides-at}
 use Rattle.card.specs.Netlists.{all_below, nets}
 use Rattle.card.specs.Views.{netlist_of}
-use Rattle.card.proofs.Below.{below_weaken}
+use Rattle.card.proofs.Below.{below_at, below_weaken}
 use Rattle.vectors.specs.Views.{cells_of}
 use Rattle.faults.specs.Catching.{catches}
 use Rattle.faults.proofs.Caught.{catch_shown, catches_read, fixed_catches}
@@ -13,8 +13,8 @@ use Rattle.faults.proofs.catching.catches.Goals as goal
 pub opposite_somewhere-requires : goal.opposite_somewhere-requires
 opposite_somewhere-requires c =
     let card = netlist_of c.args.card.now in
-    let rules = c.outputs.ensures.every_card_keeps_the_rules in
-    record { outputs_are_nets = ap (all_below 256) c.outputs.ensures.are_the_outputs ∙ below_weaken (nets card) 256 card.outputs rules.nets_fit rules.outputs_declared }
+    let rules = c.args.card.now.lawful in
+    record { outputs_are_nets = λ i d h. below_at 256 c.outputs.result.now i d (ap (all_below 256) c.outputs.ensures.are_the_outputs ∙ below_weaken (nets card) 256 card.outputs rules.nets_fit rules.outputs_declared) h }
 
 pub returns : goal.returns
 returns c =
@@ -22,7 +22,7 @@ returns c =
     let v = cells_of c.args.vector.now in
     let s = c.args.stuck in
     let r = c.opposite_somewhere.result in
-    let rules = c.outputs.ensures.every_card_keeps_the_rules in
+    let rules = c.args.card.now.lawful in
     let e : r ≡ catches card s v =
     catches_read card s v c.walk.new.nets c.walk-2.new.nets _ _ c.outputs.result.now r rules c.outputs.ensures.are_the_outputs
     c.enter.ensures.enters_the_cells c.enter-2.ensures.enters_the_cells c.walk.ensures.every_net_has_its_value c.walk-2.ensures.every_net_has_its_value

@@ -27,7 +27,7 @@ returns c =
     record {
       tries_each_cell_in_rising_order = e;
       still_catches = caught;
-      a_setting_that_shows_the_fault_is_thinned_to_a_catch = λ a bits f d. caught (shows_caught card s v bits c.inputs-j-end.ensures.every_card_keeps_the_rules a f d);
+      a_setting_that_shows_the_fault_is_thinned_to_a_catch = λ a bits f d. caught (shows_caught card s v bits c.args.card.now.lawful a f d);
       every_filling_shows_the_fault = λ t. catch_shown card s (cells_of c.loop-j.vector) (caught t);
       no_cell_still_fixed_can_be_freed = subst (λ (w : Cells). NoneToFree card s w) (sym e) (thinned_least card s v);
       fixed_cells_are_those_of_the_setting = subst (λ (w : Cells). Extends v w) (sym e) (thinned_extended card s v 0 k (omega arith));

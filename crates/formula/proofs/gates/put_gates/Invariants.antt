@@ -1,16 +1,13 @@
 -- The gates from this one on are what is still to be put.
-use Rattle.std.proofs.Common.{◌≡◌, ◌+◌, ◌*◌, ◌≤◌, drop}
+use Rattle.std.proofs.Common.{◌≡◌, ◌+◌, drop}
 use Rattle.std.specs.List.{flat_map}
-use Rattle.solving.specs.Literals.{places}
 use Rattle.formula.specs.Links.{clauses_of, gate_links}
-use Rattle.formula.specs.Posing.{more, net_variable}
+use Rattle.formula.specs.Posing.{given, net_variable}
 use Rattle.formula.specs.Variables.{stuck_line}
 use Rattle.formula.proofs.gates.put_gates.Given as goal
 
-abbrev pub invariant-loop-gate : goal.invariant-loop-gate
-invariant-loop-gate g l =
-    let m = g.S.Solver.model l.solver in
-    let n = g.S.Solver.model l.initial.solver in
-    (l.net ≡ l.inputs + l.gate-index) × (m.variables ≡ n.variables) × (places m.clauses ≤ places n.clauses + 16 * l.gate-index) ×
-    (more m (flat_map clauses_of (gate_links (net_variable l.stuck l.nets) (stuck_line l.nets) l.stuck l.net (drop l.gate-index l.gates)))
-    ≡ more n (flat_map clauses_of (gate_links (net_variable l.stuck l.nets) (stuck_line l.nets) l.stuck l.inputs l.gates)))
+abbrev pub invariant-loop-i : goal.invariant-loop-i
+invariant-loop-i g l =
+    let links = gate_links (net_variable l.side.stuck l.side.nets) (stuck_line l.side.nets) l.side.stuck in
+    given (g.S.Solver.model l.solver) (flat_map clauses_of (links (l.inputs + l.i) (drop l.i l.gates)))
+    ≡ given (g.S.Solver.model l.initial.solver) (flat_map clauses_of (links l.inputs l.gates))

@@ -1,7 +1,8 @@
 -- The literals written so far are those of the first outputs.
-use Rattle.std.proofs.Common.{◌≡◌, ◌+◌, length, take}
+use Rattle.std.proofs.Common.{◌≡◌, length}
 use Rattle.formula.specs.Posing.{rising}
+use Rattle.formula.specs.Variables.{difference}
 use Rattle.formula.proofs.outputs.put_differences.Given as goal
 
-abbrev pub invariant-loop-i : goal.invariant-loop-i
-invariant-loop-i g l = (length l.clause ≡ 32) × (take l.i l.clause ≡ rising (l.nets + l.nets + 2) l.i)
+abbrev pub invariant-loop-output : goal.invariant-loop-output
+invariant-loop-output g l = (length l.clause.items ≡ l.output) × (l.clause.items ≡ rising (difference l.side.nets 0) l.output)

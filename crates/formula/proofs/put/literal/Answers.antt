@@ -1,56 +1,27 @@
--- A code in range is no blank, and its variable is small enough for a literal.
-use Rattle.std.proofs.Common.{◌≡◌, ◌<◌, length, get_or, pos, ◌-ℤ◌, sym, ap, ◌∙◌, arith, w8, w16, SFits, to_z, rules}
+-- The variable of the code, and its sign.
+use Rattle.std.proofs.Common.{◌≡◌, ◌-◌, map, length, get_or, pos, sym, ap, ◌∙◌, w8, w16, SFits, rules}
+use lib.IntN.{nat_abs}
 use lib.Signed.{lt_z}
-use Rattle.std.proofs.lemmas.Int.{to_z-of_z, to_z_pos}
+use Rattle.std.proofs.lemmas.Int.{to_z-of_z}
+use Rattle.std.proofs.lemmas.List.{get_or-map}
 use Rattle.solving.specs.Literals.{place}
-use Rattle.formula.proofs.Puts.{literal_negative, literal_positive, no_blank, variable_fits}
+use Rattle.formula.proofs.Puts.{code_literal, code_place}
 use Rattle.formula.proofs.Renamed.{in_range_place}
 use Rattle.formula.proofs.put.literal.Goals as goal
 
-pub place-requires : goal.place-requires
-place-requires c = record { is_a_literal = λ z. no_blank (length c.args.variables.now) c.args.code c.requires.names_a_variable (sym (to_z-of_z w8 c.args.code c.ranges.code) ∙ z) }
-
-pub overflow_cast-result : goal.overflow_cast-result
-overflow_cast-result c =
-    let ep : c.place.result ≡ place c.args.code = c.place.ensures.is_the_codes_place ∙ ap place (to_z-of_z w8 c.args.code c.ranges.code) in
-    let l : place c.args.code < length c.args.variables.now = in_range_place (length c.args.variables.now) c.args.code c.requires.names_a_variable in
-    let k = variable_fits 560 c.args.variables.now c.place.result c.requires.few_variables (omega arith) in
-    search rules
-
-pub overflow_cast-result-else-code-gt0 : goal.overflow_cast-result-else-code-gt0
-overflow_cast-result-else-code-gt0 c =
-    let ep : c.place.result ≡ place c.args.code = c.place.ensures.is_the_codes_place ∙ ap place (to_z-of_z w8 c.args.code c.ranges.code) in
-    let l : place c.args.code < length c.args.variables.now = in_range_place (length c.args.variables.now) c.args.code c.requires.names_a_variable in
-    let k = variable_fits 560 c.args.variables.now c.place.result c.requires.few_variables (omega arith) in
-    search rules
-
-pub overflow_sub-result : goal.overflow_sub-result
-overflow_sub-result c =
-    let ep : c.place.result ≡ place c.args.code = c.place.ensures.is_the_codes_place ∙ ap place (to_z-of_z w8 c.args.code c.ranges.code) in
-    let l : place c.args.code < length c.args.variables.now = in_range_place (length c.args.variables.now) c.args.code c.requires.names_a_variable in
-    let k = variable_fits 560 c.args.variables.now c.place.result c.requires.few_variables (omega arith) in
-    search rules
-
-pub returns-then-code-gt0 : goal.returns-then-code-gt0
-returns-then-code-gt0 c =
+pub returns : goal.returns
+returns c =
+    let code = c.args.code in
     let vs = c.args.variables.now in
-    let ez = to_z-of_z w8 c.args.code c.ranges.code in
-    let ep : c.place.result ≡ place c.args.code = c.place.ensures.is_the_codes_place ∙ ap place ez in
-    let l : place c.args.code < length vs = in_range_place (length vs) c.args.code c.requires.names_a_variable in
-    let k = variable_fits 560 vs c.place.result c.requires.few_variables (omega arith) in
-    record { is_the_codes_literal = to_z_pos w16 (get_or vs c.place.result 0) (omega (arith, k.1)) ∙ ap (λ p. pos (get_or vs p 0)) ep ∙ literal_positive vs c.args.code (ap (lt_z (pos 0)) (sym ez) ∙ c.if-code-gt0.true) }
-
-pub returns-else-code-gt0 : goal.returns-else-code-gt0
-returns-else-code-gt0 c =
-    let vs = c.args.variables.now in
-    let ez = to_z-of_z w8 c.args.code c.ranges.code in
-    let ep : c.place.result ≡ place c.args.code = c.place.ensures.is_the_codes_place ∙ ap place ez in
-    let l : place c.args.code < length vs = in_range_place (length vs) c.args.code c.requires.names_a_variable in
-    let k = variable_fits 560 vs c.place.result c.requires.few_variables (omega arith) in
-    let j = variable_fits 560 vs (place c.args.code) c.requires.few_variables l in
-    let small : SFits w16 (pos 0 -ℤ to_z w16 (get_or vs c.place.result 0)) = search rules in
+    let n = length vs in
+    let x = c.index-variables-from.result in
+    let ez = to_z-of_z w8 code c.ranges.code in
+    let fits : SFits w16 c.literal.result = search rules in
+    let ep : c.from.result - 1 ≡ place code = ap (λ k. k - 1) (c.from.ensures ∙ c.unsigned_abs.ensures.value ∙ ap nat_abs ez) ∙ code_place code in
+    let ex : x.number ≡ get_or (map (λ v. v.number) vs) (place code) 0 =
+    ap (λ v. v.number) c.index-variables-from.is ∙ ap (λ k. (get_or vs k x).number) ep ∙ sym (get_or-map (λ v. v.number) vs (place code) x 0 (in_range_place n code c.requires.names_a_variable)) in
     record {
       is_the_codes_literal =
-          to_z-of_z w16 _ small ∙ ap (λ z. pos 0 -ℤ z) (to_z_pos w16 (get_or vs c.place.result 0) (omega (arith, k.1))) ∙ ap (λ p. pos 0 -ℤ pos (get_or vs p 0)) ep
-          ∙ literal_negative (length vs) vs c.args.code c.requires.names_a_variable (ap (lt_z (pos 0)) (sym ez) ∙ c.if-code-gt0.false) j.0;
+          to_z-of_z w16 _ fits ∙ c.literal.ensures.is_the_variable_or_its_negation
+          ∙ code_literal n (map (λ v. v.number) vs) code _ x.number c.requires.names_a_variable (ap (lt_z (pos 0)) (sym ez)) ex;
     }

@@ -1,26 +1,28 @@
-use Rattle.std.proofs.Common.{◌<◌, ◌≤◌, List, ◌++◌, map, length, drop, set, vec_items, ap, ◌∙◌, arith}
-use Rattle.std.proofs.lemmas.List.Edits.{map_over_more}
-use Rattle.std.proofs.lemmas.List.{append-nil, drop_all, take_all}
+use Rattle.std.proofs.Common.{◌≡◌, ◌<◌, false, length, get_or, sym, refl, ap, ◌∙◌, arith}
+use Rattle.std.proofs.lemmas.List.{get_or_default}
 use Rattle.history.specs.Changing.{renamed}
-use Rattle.history.specs.declared.mark.Mark.{Mark}
+use Rattle.history.specs.declared.mark.Mark.TheVariants.{Open, Detected}
+use Rattle.job.specs.Tables.{taken_of}
+use Rattle.job.specs.declared.shown.Marked.{Marked}
+use Rattle.job.proofs.Merging.{names_none, renamed_more}
+use Rattle.job.proofs.Tabled.{kept}
 use Rattle.job.proofs.merge.rename_all.Goals as goal
+use Rattle.job.proofs.merge.rename_all.Goals.{in-Detected, in_default}
 
-pub loop-fault-preserved : goal.loop-fault-preserved
-loop-fault-preserved c =
-    let lt : c.loop-fault.fault < length (vec_items c.args.marks.now) = omega arith in (
-      ap (set (vec_items c.loop-fault.marks) c.loop-fault.fault) c.rename.ensures.names_the_vector_anew
-          ∙ map_over_more (renamed c.args.into c.args.gone) (vec_items c.args.marks.now) (vec_items c.loop-fault.marks) c.loop-fault.fault _ lt c.loop-fault.invariant.0 c.index.ensures,
-      c.loop-fault.invariant.1,
-    )
-
-pub returns : goal.returns
-returns c =
-    let xs : List Mark = vec_items c.args.marks.now in
-    let le : length xs ≤ c.loop-fault.fault = omega arith in
-    record {
-      renames_each = c.loop-fault.invariant.0
-          ∙ ap (λ (ys : List Mark). map (renamed c.args.into c.args.gone) ys ++ drop c.loop-fault.fault xs) (take_all c.loop-fault.fault xs le)
-          ∙ ap (λ (ys : List Mark). map (renamed c.args.into c.args.gone) xs ++ ys) (drop_all c.loop-fault.fault xs le)
-          ∙ append-nil (map (renamed c.args.into c.args.gone) xs);
-      keeps_their_number = c.loop-fault.invariant.1;
-    }
+pub loop-state-preserved : goal.loop-state-preserved
+loop-state-preserved c =
+    let ys = c.loop-state.states in
+    let i = c.loop-state.state-index in
+    let s : Marked = get_or ys i (record { mark = Open; taken = false }) in
+    let lt : i < length ys = omega arith in
+    let is : s ≡ get_or ys i s = get_or_default ys i (record { mark = Open; taken = false }) s lt in
+    elim c.match-state.branch [
+      | in-Detected w ↦ rw w.states-is (record {
+        marks = renamed_more (renamed c.args.into c.args.gone) c.args.states.now ys i s _ (omega arith) c.loop-state.invariant.marks is lt (ap Detected w.renumber.ensures.is_the_new_number ∙ sym (ap (renamed c.args.into c.args.gone) w.in-Detected.is));
+        flags = kept taken_of ys i s _ is refl ∙ c.loop-state.invariant.flags;
+      })
+      | in_default w ↦ rw w.states-is (record {
+        marks = renamed_more (renamed c.args.into c.args.gone) c.args.states.now ys i s s (omega arith) c.loop-state.invariant.marks is lt (names_none c.args.into c.args.gone s.mark w.in_default.not-Detected);
+        flags = kept taken_of ys i s s is refl ∙ c.loop-state.invariant.flags;
+      })
+    ]

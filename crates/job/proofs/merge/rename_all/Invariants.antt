@@ -1,7 +1,11 @@
-use Rattle.std.proofs.Common.{◌≡◌, ◌++◌, map, take, drop, vec_items, vec_len}
+use Rattle.std.proofs.Common.{◌≡◌, ◌++◌, map, take, drop}
 use Rattle.history.specs.Changing.{renamed}
+use Rattle.job.specs.Tables.{mark_of, taken_of}
 use Rattle.job.proofs.merge.rename_all.Given as goal
 
 -- the marks below the fault are renamed
-abbrev pub invariant-loop-fault : goal.invariant-loop-fault
-invariant-loop-fault l = (vec_items l.marks ≡ map (renamed l.into l.gone) (take l.fault (vec_items l.initial.marks)) ++ drop l.fault (vec_items l.initial.marks)) × (vec_len l.marks ≡ vec_len l.initial.marks)
+abbrev pub invariant-loop-state : goal.invariant-loop-state
+invariant-loop-state l = record {
+  marks : map mark_of l.states ≡ map (renamed l.into l.gone) (take l.state-index (map mark_of l.initial.states)) ++ drop l.state-index (map mark_of l.initial.states);
+  flags : map taken_of l.states ≡ map taken_of l.initial.states;
+}

@@ -3,12 +3,12 @@ use Rattle.solving.specs.Settings.{open_in}
 use Rattle.solving.specs.Orders.{Reaches}
 use Rattle.propagation.specs.Stacks.{held, room}
 use Rattle.propagation.specs.Trails.{Grown}
-use Rattle.propagation.specs.Occurrences.{clauses_of}
+use Rattle.propagation.specs.Clauses.{clauses_of}
 use Rattle.propagation.specs.Following.{Looked}
 use Rattle.propagation.proofs.close.begin.Given as goal
 
-abbrev pub invariant-loop-c : goal.invariant-loop-c
-invariant-loop-c l =
+abbrev pub invariant-loop-pressing : goal.invariant-loop-pressing
+invariant-loop-pressing l =
     Looked (clauses_of l.clauses) l.first l.values (drop l.initial.trail.len (held l.trail))
     × Reaches (clauses_of l.clauses) l.initial.values l.values
     × Grown l.initial.values l.values (held l.initial.trail) (held l.trail)
@@ -16,5 +16,5 @@ invariant-loop-c l =
     × (l.trail.len + open_in (length l.values) l.values ≤ room l.trail)
     × (l.first ≤ length l.clauses.ends.now)
 
-abbrev pub decreases-loop-c : goal.decreases-loop-c
-decreases-loop-c l = open_in (length l.values) l.values
+abbrev pub decreases-loop-pressing : goal.decreases-loop-pressing
+decreases-loop-pressing l = open_in (length l.values) l.values

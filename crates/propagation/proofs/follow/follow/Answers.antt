@@ -1,6 +1,7 @@
 use Rattle.std.proofs.Common.{◌≡◌, length, take, drop, refl, ◌∙◌, arith, length-drop, length-take}
+use Rattle.std.proofs.lemmas.Result.{err_from_is_err_and}
 use Rattle.solving.specs.Orders.{stop}
-use Rattle.propagation.specs.Occurrences.{clauses_of}
+use Rattle.propagation.specs.Clauses.{clauses_of}
 use Rattle.propagation.proofs.Trailing.{grown_none, grown_on, grown_longer}
 use Rattle.propagation.proofs.Reached.{reach_on, closes_broken, closes_whole}
 use Rattle.propagation.proofs.Followed.{pending_end, rest_whole, rest_still}
@@ -9,30 +10,31 @@ use Rattle.propagation.proofs.follow.follow.Goals as goal
 pub loop-front-init : goal.loop-front-init
 loop-front-init c = (c.requires.pending, stop, grown_none c.args.values.now _, refl, c.requires.space, c.requires.inside)
 
-pub returns-then-not-visit : goal.returns-then-not-visit
-returns-then-not-visit c =
+pub returns-in_err-visit : goal.returns-in_err-visit
+returns-in_err-visit c =
     let cs = clauses_of c.args.clauses in
-    let e = c.if-not-visit.ensures in
+    let e = c.in_err-visit.ensures in
     let r = reach_on cs c.args.values.now c.loop-front.values c.visit.new.values c.loop-front.invariant.1 e.reached in
-    record {
-      closes = closes_broken cs c.args.values.now c.visit.new.values _ refl r (e.broken refl);
+    let p = err_from_is_err_and c.from_residual.result c.from_residual.ensures.1 in
+    rw p.1 (record {
+      closes = closes_broken cs c.args.values.now c.visit.new.values _ refl r e.broken;
       reached = r;
-      broken = λ _. e.broken refl;
+      broken = e.broken;
       grown = grown_on c.args.values.now c.loop-front.values c.visit.new.values _ _ _ c.loop-front.invariant.2 e.grown;
       space = e.space ∙ c.loop-front.invariant.3;
-    }
+    })
 
 pub loop-front-preserved : goal.loop-front-preserved
 loop-front-preserved c =
     let cs = clauses_of c.args.clauses in
-    let e = c.if-not-visit.ensures in
+    let e = c.in_ok-visit.ensures in
     let g = grown_on c.args.values.now c.loop-front.values c.visit.new.values _ _ _ c.loop-front.invariant.2 e.grown in
     let h = grown_longer c.loop-front.values c.visit.new.values _ _ e.grown in
     let k = length-take c.args.trail.now.len c.args.trail.now.entries.now in
     let l = length-take c.loop-front.trail.len c.loop-front.trail.entries.now in
     let m = length-take c.visit.new.trail.len c.visit.new.trail.entries.now in
     let r = e.space ∙ c.loop-front.invariant.3 in (
-      e.pending refl,
+      e.pending,
       reach_on cs c.args.values.now c.loop-front.values c.visit.new.values c.loop-front.invariant.1 e.reached,
       g,
       r,
@@ -50,7 +52,7 @@ returns c =
     record {
       closes = closes_whole cs c.args.values.now v _ refl c.loop-front.invariant.1 (rest_whole v cs q) (rest_still v cs q);
       reached = c.loop-front.invariant.1;
-      broken = λ e. absurd (mathlib.Core.Bool.true≢false e);
+      broken = tt;
       grown = c.loop-front.invariant.2;
       space = c.loop-front.invariant.3;
     }

@@ -3,7 +3,7 @@ use Rattle.solving.specs.Settings.{open_in}
 use Rattle.solving.specs.Orders.{Reaches}
 use Rattle.propagation.specs.Stacks.{held, room}
 use Rattle.propagation.specs.Trails.{Grown}
-use Rattle.propagation.specs.Occurrences.{clauses_of}
+use Rattle.propagation.specs.Clauses.{clauses_of}
 use Rattle.propagation.specs.Following.{Pending}
 use Rattle.propagation.proofs.follow.follow.Given as goal
 

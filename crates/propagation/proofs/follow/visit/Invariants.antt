@@ -3,7 +3,8 @@ use Rattle.solving.specs.Settings.{open_in}
 use Rattle.solving.specs.Orders.{Reaches}
 use Rattle.propagation.specs.Stacks.{held, room}
 use Rattle.propagation.specs.Trails.{Grown}
-use Rattle.propagation.specs.Occurrences.{against, clauses_of}
+use Rattle.propagation.specs.Occurrences.{against}
+use Rattle.propagation.specs.Clauses.{clauses_of}
 use Rattle.propagation.specs.Following.{Visiting}
 use Rattle.propagation.proofs.follow.visit.Given as goal
 

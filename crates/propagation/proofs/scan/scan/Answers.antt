@@ -1,4 +1,4 @@
-use Rattle.std.proofs.Common.{ℕ, ◌+◌, ◌-◌, get_or, take, drop, pos, sym, refl, ap, ◌∙◌, arith, w16, SFits, rules}
+use Rattle.std.proofs.Common.{ℕ, ◌+◌, ◌-◌, ◌≤◌, length, get_or, take, drop, pos, sym, ap, ◌∙◌, arith, w16, SFits, rules}
 use Rattle.std.proofs.lemmas.Int.{to_z-of_z}
 use Rattle.solving.specs.declared.state.State.{State}
 use Rattle.solving.specs.States.{state_of, joined}
@@ -12,25 +12,37 @@ loop-c-init c =
     let row = c.args.clauses.literals.now in
     let ends = c.args.clauses.ends.now in
     let e = c.start_of-from.ensures.is_its_start in (
-      rw e (ends_drop row 0 ends c.args.first c.requires.inside c.requires.ended),
+      rw e (ends_drop row 0 ends c.args.first c.requires.inside c.args.clauses.listed.ended),
       ap (λ (n : ℕ). foremost c.args.values.now c.args.first (clauses_from row n (drop c.args.first ends))) e ∙ ap (foremost c.args.values.now c.args.first) (sym (clauses_drop row 0 ends c.args.first c.requires.inside)),
     )
 
-pub loop-i-init : goal.loop-i-init
-loop-i-init c =
-    let e = ends_clause c.args.clauses.literals.now c.loop-c.from c.loop-c.c c.args.clauses.ends.now c.loop-c-test.true c.loop-c.invariant.0 in
-    (ends_le c.args.clauses.literals.now _ _ e.1, refl)
-
-pub loop-i-preserved : goal.loop-i-preserved
-loop-i-preserved c =
-    let v = c.args.values.now in
+pub offset_bounds-literals-from : goal.offset_bounds-literals-from
+offset_bounds-literals-from c =
     let row = c.args.clauses.literals.now in
-    let l = get_or row c.loop-i.i (pos 0) in
+    let e = ends_clause row c.loop-c.from c.loop-c.c c.args.clauses.ends.now c.loop-c-test.true c.loop-c.invariant.0 in
+    let h = ends_le row _ _ e.1 in
+    let g : c.loop-c.from ≤ length row = omega (arith, e.0, h) in
+    search rules
+
+pub slice_bounds-clause-end : goal.slice_bounds-clause-end
+slice_bounds-clause-end c =
+    let row = c.args.clauses.literals.now in
+    let e = ends_clause row c.loop-c.from c.loop-c.c c.args.clauses.ends.now c.loop-c-test.true c.loop-c.invariant.0 in
+    let a = e.0 in
+    let h = ends_le row _ _ e.1 in
+    search rules
+
+pub loop-literal-preserved : goal.loop-literal-preserved
+loop-literal-preserved c =
+    let v = c.args.values.now in
+    let xs = take (get_or c.args.clauses.ends.now c.loop-c.c 0 - c.loop-c.from) (drop c.loop-c.from c.args.clauses.literals.now) in
+    let i = c.loop-literal.literal-index in
+    let l = get_or xs i (pos 0) in
     let f : SFits w16 l = search rules in
     let e1 = simp to_z-of_z at c.join-state.ensures.joins_the_literal in
     let e2 = simp to_z-of_z at c.value_of.ensures.is_the_literals_value in
-    let h = scan_more v row c.loop-i.i (get_or c.args.clauses.ends.now c.loop-c.c 0) c.loop-i.state _ c.loop-i-test.true (omega (arith, c.loop-i.invariant.0)) c.loop-i.invariant.1 in
-    (c.loop-i.invariant.0, ap (λ (x : State). combined x (state_of v (take (get_or c.args.clauses.ends.now c.loop-c.c 0 - (c.loop-i.i + 1)) (drop (c.loop-i.i + 1) row)))) (e1 ∙ ap (λ o. joined o l c.loop-i.state) e2) ∙ h)
+    let h = scan_more v xs i c.loop-literal.state _ c.loop-literal-test.true c.loop-literal.invariant in
+    ap (λ (x : State). combined x (state_of v (drop (i + 1) xs))) (e1 ∙ ap (λ o. joined o l c.loop-literal.state) e2) ∙ h
 
 pub loop-c-preserved : goal.loop-c-preserved
 loop-c-preserved c =
@@ -38,7 +50,7 @@ loop-c-preserved c =
     let row = c.args.clauses.literals.now in
     let ends = c.args.clauses.ends.now in
     let e = ends_clause row c.loop-c.from c.loop-c.c ends c.loop-c-test.true c.loop-c.invariant.0 in
-    let d = scan_done v row c.loop-i.i (get_or ends c.loop-c.c 0) c.loop-i.state _ c.loop-i-test.false c.loop-i.invariant.1 in
+    let d = scan_done v (take (get_or ends c.loop-c.c 0 - c.loop-c.from) (drop c.loop-c.from row)) c.loop-literal.literal-index c.loop-literal.state _ c.loop-literal-test.false c.loop-literal.invariant in
     let s = scan_clause v row c.loop-c.from c.loop-c.c ends c.loop-c-test.true in
     (e.1, ap (λ (x : State). or_later c.loop-c.c x (foremost v (c.loop-c.c + 1) (clauses_from row (get_or ends c.loop-c.c 0) (drop (c.loop-c.c + 1) ends)))) (sym c.in-Other.is ∙ d) ∙ sym s ∙ c.loop-c.invariant.1)
 
@@ -47,7 +59,7 @@ returns-in-Broken c =
     let v = c.args.values.now in
     let row = c.args.clauses.literals.now in
     let ends = c.args.clauses.ends.now in
-    let d = scan_done v row c.loop-i.i (get_or ends c.loop-c.c 0) c.loop-i.state _ c.loop-i-test.false c.loop-i.invariant.1 in
+    let d = scan_done v (take (get_or ends c.loop-c.c 0 - c.loop-c.from) (drop c.loop-c.from row)) c.loop-literal.literal-index c.loop-literal.state _ c.loop-literal-test.false c.loop-literal.invariant in
     let s = scan_clause v row c.loop-c.from c.loop-c.c ends c.loop-c-test.true in
     record { is_the_first_such_clause = ap (λ (x : State). or_later c.loop-c.c x (foremost v (c.loop-c.c + 1) (clauses_from row (get_or ends c.loop-c.c 0) (drop (c.loop-c.c + 1) ends)))) (sym c.in-Broken.is ∙ d) ∙ sym s ∙ c.loop-c.invariant.1 }
 
@@ -56,7 +68,7 @@ returns-in-Lone c =
     let v = c.args.values.now in
     let row = c.args.clauses.literals.now in
     let ends = c.args.clauses.ends.now in
-    let d = scan_done v row c.loop-i.i (get_or ends c.loop-c.c 0) c.loop-i.state _ c.loop-i-test.false c.loop-i.invariant.1 in
+    let d = scan_done v (take (get_or ends c.loop-c.c 0 - c.loop-c.from) (drop c.loop-c.from row)) c.loop-literal.literal-index c.loop-literal.state _ c.loop-literal-test.false c.loop-literal.invariant in
     let s = scan_clause v row c.loop-c.from c.loop-c.c ends c.loop-c-test.true in
     let f : SFits w16 c.in-Lone.literal = search rules in
     record { is_the_first_such_clause = simp to_z-of_z (ap (λ (x : State). or_later c.loop-c.c x (foremost v (c.loop-c.c + 1) (clauses_from row (get_or ends c.loop-c.c 0) (drop (c.loop-c.c + 1) ends)))) (sym c.in-Lone.is ∙ d) ∙ sym s ∙ c.loop-c.invariant.1) }

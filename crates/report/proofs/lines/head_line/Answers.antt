@@ -9,4 +9,4 @@ returns c =
     let two = put_then _ _ p _ _ (put_then _ _ p _ _ one c.put-2.ensures.puts_the_bytes) c.number-2.ensures.puts_its_digits in
     let three = put_then _ _ p _ _ (put_then _ _ p _ _ two c.put-3.ensures.puts_the_bytes) c.number-3.ensures.puts_its_digits in
     let four = put_then _ _ p _ _ (put_then _ _ p _ _ three c.put-4.ensures.puts_the_bytes) c.number-4.ensures.puts_its_digits in
-    record { puts_the_head = put_then _ _ p _ _ four c.byte.ensures.puts_the_byte; holds_the_lent_buffer = cc }
+    record { puts_the_head = put_then _ _ p _ _ four c.byte.ensures.puts_the_byte }

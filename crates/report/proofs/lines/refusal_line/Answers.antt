@@ -9,4 +9,4 @@ returns c =
     let p = filled_of c.args.page.now in
     let one = put_then _ _ p _ _ c.put.ensures.puts_the_bytes c.number.ensures.puts_its_digits in
     let two = put_then _ _ p _ _ (put_then _ _ p _ _ one c.put-2.ensures.puts_the_bytes) c.number-2.ensures.puts_its_digits in
-    record { puts_the_refusal = put_then _ _ p _ _ two c.byte.ensures.puts_the_byte; holds_the_lent_buffer = cc }
+    record { puts_the_refusal = put_then _ _ p _ _ two c.byte.ensures.puts_the_byte }

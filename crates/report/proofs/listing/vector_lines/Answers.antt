@@ -10,7 +10,7 @@ use Rattle.report.proofs.Putting.{listing_all, listing_more}
 use Rattle.report.proofs.listing.vector_lines.Goals as goal
 
 pub loop-number-init : goal.loop-number-init
-loop-number-init c = (refl, refl)
+loop-number-init c = refl
 
 pub loop-number-preserved : goal.loop-number-preserved
 loop-number-preserved c =
@@ -20,16 +20,13 @@ loop-number-preserved c =
     let v = c.index-vectors-number.result in
     let h = c.loop-number-test.true in
     let p = filled_of c.loop-number.page in
-    let read : cells_of v ≡ get_or (map cells_of vs) i (cells_of v) = ap cells_of c.index-vectors-number.is ∙ sym (get_or-map cells_of vs i v (cells_of v) h) in (
-      listing_more (vector_rows card) (map cells_of vs) i (cells_of v) p (filled_of c.vector_line.new.page) _ (omega (arith, h, length-map vs cells_of)) c.loop-number.invariant.0
-          (c.vector_line.ensures.puts_the_line ∙ ap (λ (x : Cells). putting (ended (vector_rows card i x)) p) read),
-      c.vector_line.ensures.holds_the_lent_buffer ∙ c.loop-number.invariant.1,
-    )
+    let read : cells_of v ≡ get_or (map cells_of vs) i (cells_of v) = ap cells_of c.index-vectors-number.is ∙ sym (get_or-map cells_of vs i v (cells_of v) h) in
+    listing_more (vector_rows card) (map cells_of vs) i (cells_of v) p (filled_of c.vector_line.new.page) _ (omega (arith, h, length-map vs cells_of)) c.loop-number.invariant
+    (c.vector_line.ensures.puts_the_line ∙ ap (λ (x : Cells). putting (ended (vector_rows card i x)) p) read)
 
 pub returns : goal.returns
 returns c =
     let xs = map cells_of c.args.vectors.now in
     record {
-      puts_a_line_for_each_vector = listing_all (vector_rows (netlist_of c.args.card.now)) xs c.loop-number.number (filled_of c.loop-number.page) _ (omega (arith, length-map c.args.vectors.now cells_of)) c.loop-number.invariant.0;
-      holds_the_lent_buffer = c.loop-number.invariant.1;
+      puts_a_line_for_each_vector = listing_all (vector_rows (netlist_of c.args.card.now)) xs c.loop-number.number (filled_of c.loop-number.page) _ (omega (arith, length-map c.args.vectors.now cells_of)) c.loop-number.invariant;
     }

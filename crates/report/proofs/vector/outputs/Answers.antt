@@ -1,4 +1,4 @@
-use Rattle.std.proofs.Common.{◌≡◌, ℕ, ◌-◌, length, take, sym, ap, ◌∙◌, arith}
+use Rattle.std.proofs.Common.{◌≡◌, length, take, sym, ap, ◌∙◌}
 use Rattle.std.proofs.lemmas.List.{take_at}
 use Rattle.card.specs.Views.{netlist_of}
 use Rattle.vectors.specs.Views.{cells_of}
@@ -15,11 +15,9 @@ returns-in-Ok c =
     let h = c.in-Ok.ensures in
     let n = c.in-Ok.count in
     let long : length (characters card v) ≡ n = length_characters card v ∙ sym h.answers_how_many_or_names_the_refusal in
-    let z : n - 0 ≡ n = omega arith in
-    let shown : take (n - 0) c.expected_outputs.new.out ≡ characters card v =
-    ap (λ (k : ℕ). take k c.expected_outputs.new.out) z ∙ ap (take n) h.writes_the_characters_or_nothing ∙ take_at (characters card v) _ n long in
+    let shown : take n c.expected_outputs.new.out ≡ characters card v =
+    ap (take n) h.writes_the_characters_or_nothing ∙ take_at (characters card v) _ n long in
     record {
       puts_what_the_outputs_show = c.put.ensures.puts_the_bytes ∙ ap (λ t. putting t (filled_of c.args.page.now)) shown;
       a_bit_shown_is_what_every_filling_makes = h.a_bit_shown_is_what_every_filling_makes;
-      holds_the_lent_buffer = c.put.ensures.holds_the_lent_buffer;
     }

@@ -11,5 +11,4 @@ returns c =
     record {
       puts_the_line = put_then _ _ p _ _ outputs c.byte-3.ensures.puts_the_byte;
       a_bit_shown_is_what_every_filling_makes = c.outputs.ensures.a_bit_shown_is_what_every_filling_makes;
-      holds_the_lent_buffer = cc;
     }

@@ -1,4 +1,3 @@
-use Rattle.std.proofs.Common.{◌≡◌, sym, ◌∙◌}
 use Rattle.std.proofs.lemmas.Bool.{both_ways, le-ltb}
 use Rattle.sheets.proofs.Printed.{told, worked_from}
 use Rattle.sheets.proofs.print.sheet.Goals as goal

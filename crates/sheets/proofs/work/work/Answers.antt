@@ -1,17 +1,20 @@
-use Rattle.std.proofs.Common.{◌≡◌, ℕ, ◌<◌, List, length, sym, ap, ◌∙◌, subst, arith}
+use Rattle.std.proofs.Common.{◌≡◌, ℕ, ◌<◌, List, map, length, sym, ap, ◌∙◌, subst, arith}
+use lib.ListN.{length-map}
 use Rattle.card.specs.Netlists.{Netlist}
 use Rattle.faults.specs.Sites.{fault_count}
 use Rattle.history.specs.Views.{View}
-use Rattle.history.specs.declared.mark.Mark.{Mark}
 use Rattle.job.specs.Jobs.{card_held, held}
+use Rattle.job.specs.Tables.{mark_of}
 use Rattle.job.specs.declared.job.Job.{Job}
+use Rattle.job.specs.declared.shown.Marked.{Marked}
+use Rattle.job.proofs.Tabled.{all_marked}
 use Rattle.sheets.specs.Working.{NoneTaken, working}
 use Rattle.sheets.proofs.Worked.{none_taken_to, worked_all, worked_more}
 use Rattle.sheets.proofs.work.work.Goals as goal
 
 -- as many marks as faults
-marked : (j : Job) (ms : List Mark) → ms ≡ (held j).marks → length ms ≡ fault_count (card_held j)
-marked j ms e = ap length e ∙ sym j.table.marks.ok.0 ∙ j.table.a_mark_for_each_fault
+marked : (j : Job) (ms : List Marked) → map mark_of ms ≡ (held j).marks → length ms ≡ fault_count (card_held j)
+marked j ms e = sym (length-map ms mark_of) ∙ ap length e ∙ all_marked j.table
 
 pub work_on-requires : goal.work_on-requires
 work_on-requires g c =

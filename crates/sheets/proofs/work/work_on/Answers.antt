@@ -6,6 +6,7 @@ use Rattle.job.specs.Jobs.{card_held, held}
 use Rattle.job.specs.declared.job.Job.{Job}
 use Rattle.vectors.specs.Vectors.{Cells}
 use Rattle.vectors.specs.declared.vector.Vector.{Vector}
+use Rattle.job.proofs.Tabled.{all_flagged}
 use Rattle.sheets.proofs.Worked.{after_close, swept_worked, unswept_worked}
 use Rattle.sheets.proofs.work.work_on.Goals as goal
 
@@ -17,7 +18,7 @@ pub returns-then-listed-vectors : goal.returns-then-listed-vectors
 returns-then-listed-vectors c =
     let j : Job = c.args.job.now in
     let took = c.in-Ok.ensures in
-    let lt : c.args.fault < length (held j).taken = omega (arith, c.requires.a_fault, j.table.taken.ok.0, j.table.a_flag_for_each_fault) in
+    let lt : c.args.fault < length (held j).taken = omega (arith, c.requires.a_fault, all_flagged j.table) in
     let e3 = after_close (card_held j) (held j) c.args.fault took.granted_exactly_for_an_open_fault_that_is_not_taken (card_held c.take.new.self) (card_held c.search.new.self) (held c.take.new.self) (held c.search.new.self) (held c.close.new.self) c.in-Ok.ticket.fault _ _ c.search.result c.close.result
     lt took.the_fault_is_taken_or_nothing_changes took.the_card_stays took.the_ticket_is_for_the_fault
     c.search.ensures.the_solvers_answer_is_entered_or_a_refusal_changes_neither_job_nor_solver c.search.ensures.the_solver_answered_in_its_own_way
@@ -35,7 +36,7 @@ pub returns-else-listed-vectors : goal.returns-else-listed-vectors
 returns-else-listed-vectors c =
     let j : Job = c.args.job.now in
     let took = c.in-Ok.ensures in
-    let lt : c.args.fault < length (held j).taken = omega (arith, c.requires.a_fault, j.table.taken.ok.0, j.table.a_flag_for_each_fault) in
+    let lt : c.args.fault < length (held j).taken = omega (arith, c.requires.a_fault, all_flagged j.table) in
     let e3 = after_close (card_held j) (held j) c.args.fault took.granted_exactly_for_an_open_fault_that_is_not_taken (card_held c.take.new.self) (card_held c.search.new.self) (held c.take.new.self) (held c.search.new.self) (held c.close.new.self) c.in-Ok.ticket.fault _ _ c.search.result c.close.result
     lt took.the_fault_is_taken_or_nothing_changes took.the_card_stays took.the_ticket_is_for_the_fault
     c.search.ensures.the_solvers_answer_is_entered_or_a_refusal_changes_neither_job_nor_solver c.search.ensures.the_solver_answered_in_its_own_way

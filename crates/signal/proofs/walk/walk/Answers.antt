@@ -1,5 +1,5 @@
 -- The invariant is taken one gate on by `walked_more`; both promises of the walk follow from the values by `carried`.
-use Rattle.std.proofs.Common.{length, take, refl, ap, ◌∙◌, add-zero, arith, length-set, rules}
+use Rattle.std.proofs.Common.{length, take, ap, ◌∙◌, arith, length-set, rules}
 use Rattle.card.specs.Views.{netlist_of}
 use Rattle.card.specs.Netlists.{nets}
 use Rattle.signal.specs.Laws.{Only}
@@ -8,19 +8,16 @@ use Rattle.signal.proofs.Meant.{bits_mean}
 use Rattle.signal.proofs.Steps.{ordered_at, walked_more, walked_all, rest_more, rest_all}
 use Rattle.signal.proofs.walk.walk.Goals as goal
 
-pub loop-i-init : goal.loop-i-init
-loop-i-init g c = (refl, rw add-zero, refl)
-
 pub loop-i-preserved : goal.loop-i-preserved
 loop-i-preserved g c =
     let k = c.args.card.now.inputs in
     let r = c.inputs-inputs.result in
     let i = c.loop-i.i in
     let items = c.gates-gate-items.result.now in
-    let ordered = ordered_at k r i (netlist_of c.args.card.now).gates items _ c.inputs-inputs.ensures.counts_the_inputs c.gates-gate-items.ensures.are_the_gates c.loop-i-test.true c.inputs-inputs.ensures.every_card_keeps_the_rules.ordered in (
+    let ordered = ordered_at k r i (netlist_of c.args.card.now).gates items _ c.inputs-inputs.ensures.counts_the_inputs c.gates-gate-items.ensures.are_the_gates c.loop-i-test.true c.args.card.now.lawful.ordered in (
       simp length-set c.loop-i.invariant.0,
-      walked_more g.S.Signal.operations c.args.stuck c.loop-i.nets r i items _ c.gate_value.result c.loop-i-test.true (search rules) ordered c.gate_value.ensures.is_the_nets_value ∙ c.loop-i.invariant.1,
-      rest_more c.loop-i.nets c.enter_stuck_input.new.nets r i c.gate_value.result c.loop-i.invariant.2,
+      walked_more g.S.Signal.operations c.args.stuck c.loop-i.nets r i items _ c.value.result c.loop-i-test.true (search rules) ordered c.value.ensures.is_the_nets_value ∙ c.loop-i.invariant.1,
+      rest_more c.loop-i.nets c.enter_stuck_input.new.nets r i c.value.result c.loop-i.invariant.2,
     )
 
 pub returns : goal.returns

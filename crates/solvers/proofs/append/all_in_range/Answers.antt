@@ -1,19 +1,13 @@
-use Rattle.std.proofs.Common.{get_or, pos, w16, SFits, rules}
-use Rattle.std.proofs.lemmas.Int.{to_z-of_z}
-use Rattle.solvers.proofs.Stored.{range_falls, range_goes, range_ends}
+use Rattle.std.proofs.Common.{◌≡◌, ℕ, ◌<◌, true, false, length, get_or, pos, refl, rules}
+use Rattle.std.proofs.iter.runs.Made.{chains}
+use Rattle.std.proofs.lemmas.List.Recursion.{and_is}
+use Rattle.solving.specs.Literals.{in_range, all_in_range}
 use Rattle.solvers.proofs.append.all_in_range.Goals as goal
 
-pub returns-then-not-in_range : goal.returns-then-not-in_range
-returns-then-not-in_range c =
-    let f : SFits w16 (get_or c.args.clause.now c.loop-i.i (pos 0)) = search rules in
-    let e = simp to_z-of_z at c.in_range.ensures.tells_a_literal_in_range in
-    record { tells_literals_in_range = range_falls c.args.variables c.loop-i.i c.args.clause.now _ c.loop-i-test.true e c.if-not-in_range.true c.loop-i.invariant }
-
-pub loop-i-preserved : goal.loop-i-preserved
-loop-i-preserved c =
-    let f : SFits w16 (get_or c.args.clause.now c.loop-i.i (pos 0)) = search rules in
-    let e = simp to_z-of_z at c.in_range.ensures.tells_a_literal_in_range in
-    range_goes c.args.variables c.loop-i.i c.args.clause.now _ c.loop-i-test.true e c.if-not-in_range.false c.loop-i.invariant
-
 pub returns : goal.returns
-returns c = record { tells_literals_in_range = range_ends c.args.variables c.loop-i.i c.args.clause.now c.loop-i-test.false c.loop-i.invariant }
+returns c =
+    let v = c.args.variables in
+    let xs = c.args.clause.now in
+    let t : c.all.result ≡ true → (i : ℕ) → i < length xs → in_range v (get_or xs i (pos 0)) ≡ true = search (rules, chains) in
+    let f : c.all.result ≡ false → (i : ℕ) × (i < length xs) × (in_range v (get_or xs i (pos 0)) ≡ false) = search (rules, chains) in
+    record { tells_literals_in_range = and_is (all_in_range v) (in_range v) refl (λ _ _. refl) xs (pos 0) c.all.result t f }

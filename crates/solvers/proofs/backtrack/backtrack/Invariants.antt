@@ -1,7 +1,7 @@
 use Rattle.std.proofs.Common.{◌≡◌, ◌-◌, ◌≤◌, drop}
 use Rattle.propagation.specs.Stacks.{held, room}
 use Rattle.solvers.specs.Looping.{Kept}
-use Rattle.propagation.specs.Occurrences.{clauses_of}
+use Rattle.propagation.specs.Clauses.{clauses_of}
 use Rattle.propagation.specs.Following.{Pending}
 use Rattle.solvers.proofs.backtrack.backtrack.Given as goal
 

@@ -10,8 +10,8 @@ use Rattle.solvers.proofs.Stored.{ends_of, ends_as}
 use Rattle.solvers.proofs.Verdicts.{told_answered, concluded}
 use Rattle.solvers.proofs.backtracking.run.Goals as goal
 
-pub fill-requires : goal.fill-requires
-fill-requires c =
+pub fill-clauses-requires : goal.fill-clauses-requires
+fill-clauses-requires c =
     let n = c.reopen.new.self in
     record {
       ended = ends_as c.deref.result.now (vec_items n.literals) c.deref-2.result.now (vec_items n.ends) c.deref.ensures.value c.deref-2.ensures.value (ends_of (vec_items n.literals) (vec_len n.literals) 0 (vec_items n.ends) n.literals.ok.0 n.ended);
@@ -22,7 +22,7 @@ pub returns : goal.returns
 returns c =
     let s = c.args.store.now in
     let e = c.reopen.ensures.state in
-    let cs = ap₂ (λ (xs : List ℤ) (es : List ℕ). clauses_from xs 0 es) c.deref-3.ensures.value c.deref-4.ensures.value ∙ ap (λ (x : Model). x.clauses) e in
+    let cs = c.fill-clauses.ensures.has_the_clauses ∙ ap₂ (λ (xs : List ℤ) (es : List ℕ). clauses_from xs 0 es) c.deref.ensures.value c.deref-2.ensures.value ∙ ap (λ (x : Model). x.clauses) e in
     let a = c.deref_mut.ensures.value ∙ c.reopen.ensures.opened in
     let q : backtracked (model_of s) c.args.budget ≡ answered c.backtrack-solved.result c.backtrack-solved.new.values = sym (ap₂ (λ (ys : List (List ℤ)) (b : Setting). backtracking lowest ys c.args.budget b) cs a) ∙ c.backtrack-solved.ensures.answers_as_defined in
     record {

@@ -1,7 +1,7 @@
 use Rattle.std.proofs.Common.{◌≤◌, length, None, sym, arith, w16, SFits, rules}
 use Rattle.std.proofs.lemmas.Int.{to_z-of_z}
 use Rattle.solving.specs.Literals.{place}
-use Rattle.solvers.proofs.Trailing.{set_past}
+use Rattle.std.proofs.lemmas.List.{set_past}
 use Rattle.solvers.proofs.turn.undo.Goals as goal
 
 pub returns-else-j-values : goal.returns-else-j-values

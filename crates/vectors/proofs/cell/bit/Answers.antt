@@ -1,11 +1,8 @@
--- A bit of a number of 32 bits, by a shift and a mask; from place 32 on there is none.
-use Rattle.std.proofs.Common.{sym, ◌∙◌, arith, rules}
+-- From place 32 on a number of 32 bits has no bit.
+use Rattle.std.proofs.Common.{sym, ◌∙◌, arith}
 use Rattle.std.proofs.lemmas.Bool.{le-ltb}
-use Rattle.vectors.proofs.Bits.{bit_masked, bit_past}
+use Rattle.vectors.proofs.Bits.{bit_past}
 use Rattle.vectors.proofs.cell.bit.Goals as goal
-
-pub returns-then-place-lt32 : goal.returns-then-place-lt32
-returns-then-place-lt32 c = search (rules, bit_masked)
 
 pub returns-else-place-lt32 : goal.returns-else-place-lt32
 returns-else-place-lt32 c = record {

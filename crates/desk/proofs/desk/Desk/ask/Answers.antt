@@ -11,14 +11,8 @@ invariant_of-self g c = record {
       c.run.ensures.without_room_the_job_stays c.run.ensures.without_room_the_tickets_stay c.args.self.now.each_taken_fault_has_one_ticket;
 }
 
-pub returns : goal.returns
-returns g c =
+pub returns-clause-the_law_of_jobs_holds_over_every_history : goal.returns-clause-the_law_of_jobs_holds_over_every_history
+returns-clause-the_law_of_jobs_holds_over_every_history g c =
     let runs = c.in_ok-replies.ensures.the_law_of_jobs_holds_over_every_history in
-    record {
-      the_law_of_jobs_holds_over_every_history =
-          subst (λ (rs : List Reply). Runs (card_held c.args.self.now.job) (held c.args.self.now.job) (vec_items c.args.self.now.tickets) (c.args.request ∷ []) rs (held c.run.new.job) (vec_items c.run.new.wallet))
-          (one_reply (vec_items c.in_ok-replies.replies) c.index.result.now runs.every_request_has_its_reply c.index.ensures) runs;
-      the_card_stays = c.run.ensures.the_card_stays;
-      without_room_the_job_stays = tt;
-      without_room_the_tickets_stay = tt;
-    }
+    subst (λ (rs : List Reply). Runs (card_held c.args.self.now.job) (held c.args.self.now.job) (vec_items c.args.self.now.tickets) (c.args.request ∷ []) rs (held c.run.new.job) (vec_items c.run.new.wallet))
+    (one_reply (vec_items c.in_ok-replies.replies) c.index.result.now runs.every_request_has_its_reply c.index.ensures) runs

@@ -6,12 +6,12 @@ use Rattle.faults.proofs.model.FaultModel.fault_count.Goals as goal
 
 pub overflow_mul-result : goal.overflow_mul-result
 overflow_mul-result c =
-    let f = few_sites (netlist_of c.args.self.now.card) c.nets.ensures.every_card_keeps_the_rules in
+    let f = few_sites (netlist_of c.args.self.now.card) c.args.self.now.card.lawful in
     let e = ap length c.args.self.now.lists_the_branches in
     omega arith
 
 pub returns : goal.returns
 returns c =
-    let f = few_sites (netlist_of c.args.self.now.card) c.nets.ensures.every_card_keeps_the_rules in
+    let f = few_sites (netlist_of c.args.self.now.card) c.args.self.now.card.lawful in
     let e = ap length c.args.self.now.lists_the_branches in
     record { counts_the_faults = omega arith; at_most_1532 = omega arith; sites_are_the_nets_and_the_branches = site_laws (netlist_of c.args.self.now.card) }

@@ -1,6 +1,4 @@
-use Rattle.std.proofs.Common.{◌≡◌, ℕ, ◌<◌, ◌≤◌, length, Some, vec_items, sym, refl, ap, ◌∙◌, subst, arith}
-use lib.ListN.{length-map}
-use Rattle.vectors.specs.Views.{cells_of}
+use Rattle.std.proofs.Common.{◌≡◌, ℕ, ◌<◌, length, Some, sym, ap, ◌∙◌, subst, arith}
 use Rattle.card.specs.Netlists.{Netlist}
 use Rattle.signal.specs.declared.line.Stuck.{Stuck}
 use Rattle.faults.specs.Sites.{stuck_of}
@@ -11,7 +9,7 @@ use Rattle.asking.specs.Findings.{finding_of}
 use Rattle.history.proofs.Verdicts.{some_same}
 use Rattle.job.proofs.table.Table.search.Given.{Over}
 use Rattle.job.specs.Tables.{card_of, view_of}
-use Rattle.job.proofs.Tabled.{full_answer, searched_answer}
+use Rattle.job.proofs.Tabled.{all_listed, searched_answer}
 use Rattle.job.proofs.table.Table.search.Goals as goal
 
 -- a fault has one line
@@ -21,20 +19,10 @@ one_line c g f same s z e q = some_same s z (sym e ∙ ap (stuck_of c) same ∙ 
 own : (g : Over) (c d : Netlist) (s z : Stuck) (budget : ℕ) (r : Solved) (n : Model) → d ≡ c → s ≡ z → g.S.Answering.answering (holds_formula d s) budget r n → g.S.Answering.answering (holds_formula c z) budget r n
 own g c d s z budget r n card line way = subst (λ (x : Stuck). g.S.Answering.answering (holds_formula c x) budget r n) line (subst (λ (k : Netlist). g.S.Answering.answering (holds_formula k s) budget r n) card way)
 
-pub returns-then-len-ge-MOST : goal.returns-then-len-ge-MOST
-returns-then-len-ge-MOST g c =
-    let t = c.args.self.now in
-    let full : 512 ≤ length (view_of t).vectors = omega (arith, c.if-len-ge-MOST.true, c.len.ensures, t.vectors.ok.0, length-map (vec_items t.vectors) cells_of) in
-    record {
-      answered = (full_answer (view_of t) _ _ c.fault-fault.ensures.is_the_tickets_fault c.if-not-holds.ensures.tells_whether_it_is_taken c.if-not-is_open.ensures.tells_whether_it_is_open full, refl, refl);
-      the_solver_answered_in_its_own_way = tt;
-      card_stays = refl;
-    }
-
 pub returns : goal.returns
 returns g c =
     let t = c.args.self.now in
-    let room : length (view_of t).vectors < 512 = omega (arith, c.if-len-ge-MOST.false, c.len.ensures, t.vectors.ok.0, length-map (vec_items t.vectors) cells_of) in
+    let room : length (view_of t).vectors < 512 = omega (arith, c.if-len-ge-MOST.false, c.len.ensures, all_listed t) in
     record {
       answered = searched_answer (view_of t) _ _ c.fault-fault.ensures.is_the_tickets_fault c.if-not-holds.ensures.tells_whether_it_is_taken c.if-not-is_open.ensures.tells_whether_it_is_open
           (card_of t) _ c.args.budget c.ask-asked.result.solved _ _ c.in-Ok.stuck (finding_of c.ask-asked.result.outcome) room

@@ -1,45 +1,49 @@
-use Rattle.std.proofs.Common.{◌≡◌, ℕ, ◌+◌, ◌<◌, ◌≤◌, length, vec_items, sym, refl, ap, subst, arith}
+use Rattle.std.proofs.Common.{◌≡◌, ◌<◌, false, List, length, get_or, vec_items, refl, ap, ◌∙◌, arith}
 use lib.ListN.{length-map}
+use Rattle.std.proofs.lemmas.Grind.{common_steps}
+use Rattle.std.proofs.lemmas.List.{get_or_default, with_items_is}
 use Rattle.vectors.specs.Views.{cells_of}
-use Rattle.job.specs.Tables.{card_of, view_of}
-use Rattle.job.specs.declared.table.Table.{Table}
-use Rattle.job.proofs.Sweeping.{SweptTo, cells_listed, swept_count, swept_no, swept_view, swept_yes, sweep_refused}
+use Rattle.history.specs.declared.mark.Mark.TheVariants.{Open}
+use Rattle.job.specs.Tables.{card_of, mark_of, view_of}
+use Rattle.job.specs.declared.shown.Marked.{Marked}
+use Rattle.job.proofs.Sweeping.{cells_listed, swept_count, swept_no, swept_view, swept_yes}
+use Rattle.job.proofs.Tabled.{seen}
 use Rattle.job.proofs.table.Table.sweep.Goals as goal
 use Rattle.job.proofs.table.Table.sweep.Goals.{then-sweep_marks, else-sweep_marks}
 
-pub returns-then-number-len : goal.returns-then-number-len
-returns-then-number-len c =
-    let t : Table = c.args.self.now in
-    let past : length (view_of t).vectors ≤ c.args.number = omega (arith, c.if-number-len.true, c.len.ensures, t.vectors.ok.0, length-map (vec_items t.vectors) cells_of) in
-    record { granted_or_refused = sweep_refused (card_of t) (view_of t) c.args.number past; swept_or_unchanged = refl; card_stays = refl }
-
 pub loop-fault-preserved : goal.loop-fault-preserved
 loop-fault-preserved c =
-    let t : Table = c.args.self.now in
-    let u : Table = c.loop-fault.self in
-    let v : Table = c.if-sweep_marks.self in
-    let lt : c.loop-fault.fault < length (vec_items t.marks) = omega arith in
+    let t = c.args.self.now in
+    let ys = c.loop-fault.state-items in
+    let f = c.loop-fault.fault in
+    let s : Marked = get_or ys f (record { mark = Open; taken = false }) in
+    let lt : f < length ys = omega arith in
+    let is : s ≡ get_or ys f s = get_or_default ys f (record { mark = Open; taken = false }) s lt in
+    let x = cells_of c.in_ok-vector.field-0.now in
     elim c.if-sweep_marks.branch [
       | then-sweep_marks w ↦
-          subst (λ (n : ℕ). SweptTo t c.args.number (cells_of c.index.result.now) (c.loop-fault.fault + 1) n v) (sym w.count-is)
-          (swept_yes t u v _ _ _ _ lt c.loop-fault.invariant (ap (λ (k : Table). card_of k) w.self-is) (ap (λ (k : Table). vec_items k.taken) w.self-is) (ap (λ (k : Table). vec_items k.vectors) w.self-is)
-          w.if-sweep_marks.ensures.open_not_taken_and_caught (ap (λ (k : Table). vec_items k.marks) w.self-is))
+          rw (w.count-is, w.state-items-is) (swept_yes (card_of t) (view_of t) c.args.number x f _ ys s lt is c.loop-fault.invariant _ w.if-sweep_marks.ensures.open_not_taken_and_caught refl refl)
       | else-sweep_marks w ↦
-          subst (λ (n : ℕ). SweptTo t c.args.number (cells_of c.index.result.now) (c.loop-fault.fault + 1) n v) (sym w.count-is)
-          (swept_no t u v _ _ _ _ lt c.loop-fault.invariant (ap (λ (k : Table). card_of k) w.self-is) (ap (λ (k : Table). vec_items k.taken) w.self-is) (ap (λ (k : Table). vec_items k.vectors) w.self-is)
-          w.if-sweep_marks.ensures.open_not_taken_and_caught (ap (λ (k : Table). vec_items k.marks) w.self-is))
+          rw (w.count-is, w.state-items-is) (swept_no (card_of t) (view_of t) c.args.number x f _ ys s lt is c.loop-fault.invariant w.if-sweep_marks.ensures.open_not_taken_and_caught)
     ]
 
 pub returns : goal.returns
 returns c =
-    let t : Table = c.args.self.now in
-    let u : Table = c.loop-fault.self in
-    let listed : c.args.number < length (vec_items t.vectors) = omega arith in
-    let lt : c.args.number < length (view_of t).vectors = omega (arith, listed, length-map (vec_items t.vectors) cells_of) in
-    let is = cells_listed (vec_items t.vectors) c.args.number c.index.result.now listed c.index.ensures in
-    let over : c.loop-fault.fault ≡ length (vec_items t.marks) = omega arith in
+    let t = c.args.self.now in
+    let v = view_of t in
+    let i = c.args.number in
+    let x = c.in_ok-vector.field-0.now in
+    let within : i < length (vec_items t.vectors) = grind (arith, common_steps) in
+    let at : x ≡ get_or (vec_items t.vectors) i x = grind (arith, common_steps) in
+    let lt : i < length v.vectors = omega (arith, within, length-map (vec_items t.vectors) cells_of) in
+    let is = cells_listed (vec_items t.vectors) i x within at in
+    let over : c.loop-fault.fault ≡ length v.marks = omega (arith, length-map (vec_items t.states) mark_of, c.loop-fault.auto.fault-end, c.loop-fault-test.false) in
     record {
-      granted_or_refused = swept_count t u c.args.number _ _ _ lt is over c.loop-fault.invariant;
-      swept_or_unchanged = swept_view t u c.args.number _ _ _ lt is over c.loop-fault.invariant;
-      card_stays = c.loop-fault.invariant.card;
+      leads_on = record {
+        the_card_stays = refl;
+        is_a_step = (
+          swept_count (card_of t) v i (cells_of x) c.loop-fault.fault _ c.loop-fault.state-items lt is over c.loop-fault.invariant,
+          ap (λ (ys : List Marked). seen ys v.vectors) (with_items_is t.states c.loop-fault.state-items (omega arith)) ∙ swept_view (card_of t) v i (cells_of x) c.loop-fault.fault _ c.loop-fault.state-items lt is over c.loop-fault.invariant,
+        );
+      };
     }

@@ -1,7 +1,7 @@
 use Rattle.std.proofs.Common.{◌≡◌, ◌+◌, ◌/◌, ◌%◌, ◌^◌, ◌<◌, ◌≤◌, [], ◌∷◌, decimal, sym, ap, ◌∙◌, arith}
 use Rattle.std.proofs.lemmas.Fmt.{decimal_digit, decimal_is_IsNumeral, decimal_step, first_decimal}
 use Rattle.page.specs.Pages.{putting}
-use Rattle.page.specs.Views.{filled_of, lent}
+use Rattle.page.specs.Views.{filled_of}
 use Rattle.page.proofs.Putting.{put_then}
 use Rattle.page.proofs.buffer.Page.+number.Goals as goal
 use Rattle.page.proofs.buffer.Page.+number.Goals.{then-number-ge10, else-number-ge10}
@@ -24,14 +24,8 @@ returns t c =
           let one : n % 10 ≡ n = omega arith in
           put ∙ ap (λ x. putting ((48 + x) ∷ []) (filled_of c.if-number-ge10.self)) one ∙ ap (λ z. putting z (filled_of c.if-number-ge10.self)) (sym (decimal_digit n ten)) ∙ ap (λ s. putting (decimal n) (filled_of s)) w.self-is
     ] in
-    let same : lent c.byte.new.self ≡ lent c.args.self.now =
-    elim c.if-number-ge10.branch [
-      | then-number-ge10 w ↦ c.byte.ensures.holds_the_lent_buffer ∙ ap lent w.self-is ∙ w.number.ensures.holds_the_lent_buffer
-      | else-number-ge10 w ↦ c.byte.ensures.holds_the_lent_buffer ∙ ap lent w.self-is
-    ] in
     record {
       puts_its_digits = digits;
       the_digits_read_back = (reads.0, reads.1);
       no_zero_leads = λ h. first_decimal n h fits;
-      holds_the_lent_buffer = same;
     }

@@ -12,7 +12,7 @@ invariant_of-result c =
     let v = c.args.self.now in
     record { free_is_zero = ap₂ bit_and c.without-value.ensures.lacks_the_bit c.without-care.ensures.lacks_the_bit ∙ freed_is_zero v.care v.value c.args.input v.free_is_zero ∙ sym c.without-value.ensures.lacks_the_bit }
 
-pub returns : goal.returns
-returns c =
+pub returns-clause-frees_that_cell_alone : goal.returns-clause-frees_that_cell_alone
+returns-clause-frees_that_cell_alone c =
     let e : holding c.without-care.result c.without-value.result ≡ freed (cells_of c.args.self.now) c.args.input = ap₂ holding c.without-care.ensures.lacks_the_bit c.without-value.ensures.lacks_the_bit in
-    record { lacks_both_bits = e; frees_that_cell_alone = subst (λ (w : Cells). FreesOnly c.args.input (cells_of c.args.self.now) w) (sym e) (freed_cells (cells_of c.args.self.now) c.args.input) }
+    subst (λ (w : Cells). FreesOnly c.args.input (cells_of c.args.self.now) w) (sym e) (freed_cells (cells_of c.args.self.now) c.args.input)

@@ -1,0 +1,35 @@
+// The card file: the card in the file that a program's first argument names, or why its bytes are refused.
+// No contract can say what a file has, so what is promised is that some bytes read as what is handed out.
+ghost use Rattle.std.specs.Prelude.{◌≡◌, ℕ, List, IfOk, MatchResult, Ok, Err};
+ghost use Rattle.card.specs.Views.{netlist_of};
+ghost use Rattle.reading.specs.Reading.{reading};
+
+use anyhow::{Error, anyhow};
+use card::netlist::Card;
+use reading::fault::CardFault;
+use reading::read::from_bytes;
+use std::alloc::Global;
+use std::{env, fs};
+
+// The card that the bytes spell, or why they spell none. Want of memory is no refusal of the bytes, but an error.
+fn card_of(heap: Global, bytes: &[u8]) -> anyhow::Result<Result<Card, CardFault>>
+    ensures is_what_the_bytes_read { IfOk result (λ r. MatchResult r (λ card. reading bytes.now ≡ Ok (netlist_of card)) (λ e. reading bytes.now ≡ Err e)) }
+{
+    match from_bytes(heap, bytes) {
+        Ok(card) => Ok(Ok(card)),
+        Err(CardFault::Memory) => Err(anyhow!("no memory to hold the card")),
+        Err(fault) => Ok(Err(fault)),
+    }
+}
+
+// The card in the file that the first argument names; without an argument the error is how the program is called.
+// What is done with it stays with each program: a call that is given it would have to require that it can be called.
+pub fn card_named(rt: &HostRuntime, usage: &str) -> anyhow::Result<Result<Card, CardFault>>
+    ensures is_what_some_bytes_read { IfOk result (λ r. (bytes : List ℕ) × MatchResult r (λ card. reading bytes ≡ Ok (netlist_of card)) (λ e. reading bytes ≡ Err e)) }
+{
+    let Some(path) = env::args(rt)?.nth(1) else {
+        return Err(Error::msg(usage));
+    };
+    let bytes = fs::read(rt, path.as_str())?;
+    card_of(rt.alloc(), bytes.as_slice())
+}
