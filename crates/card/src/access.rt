@@ -1,5 +1,5 @@
 // What a card shows of itself: counts and lists. That it keeps the rules follows from its type, and is said with the first.
-ghost use Rattle.std.specs.Prelude.{◌≡◌, length};
+ghost use Rattle.std.specs.Prelude.{◌≡◌};
 ghost use Rattle.card.specs.Netlists.{Lawful, nets};
 ghost use Rattle.card.specs.Views.{netlist_of};
 

@@ -23,7 +23,8 @@ fn card_of(heap: Global, bytes: &[u8]) -> anyhow::Result<Result<Card, CardFault>
 }
 
 // The card in the file that the first argument names; without an argument the error is how the program is called.
-// What is done with it stays with each program: a call that is given it would have to require that it can be called.
+// What is done with it stays with each program: handed in as a closure it would be no plainer than the five lines in each, and the
+// call would have to require that it can be called.
 pub fn card_named(rt: &HostRuntime, usage: &str) -> anyhow::Result<Result<Card, CardFault>>
     ensures is_what_some_bytes_read { IfOk result (λ r. (bytes : List ℕ) × MatchResult r (λ card. reading bytes ≡ Ok (netlist_of card)) (λ e. reading bytes ≡ Err e)) }
 {

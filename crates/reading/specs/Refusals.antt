@@ -1,5 +1,5 @@
--- The number and the offset of every way in which a card is refused.
-use Rattle.std.specs.Prelude.{ℕ}
+-- The number and the offset of every way in which a card is refused, and the line that tells them.
+use Rattle.std.specs.Prelude.{ℕ, List, ◌++◌, codes, decimal}
 use Rattle.reading.specs.declared.fault.OperandFault.{OperandFault}
 use Rattle.reading.specs.declared.fault.OperandFault.TheVariants.{Cut, Undeclared}
 use Rattle.reading.specs.declared.fault.CardFault.{CardFault}
@@ -35,3 +35,7 @@ refusal_offset (NamedTwice o) = o
 refusal_offset (Incomplete o) = o
 refusal_offset (Trailing o) = o
 refusal_offset Memory = 0
+
+-- the line of a card that cannot be read: the number of the refusal and its offset
+abbrev pub refusal_line : ℕ → ℕ → List ℕ
+refusal_line number offset = codes "card refused " ++ decimal number ++ codes " at " ++ decimal offset

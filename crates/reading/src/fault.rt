@@ -1,7 +1,7 @@
 // Why card bytes are refused: the rule that is broken and where, an operand's fault inside the card's.
 // Every case has its number, which the programs print and the tester's call answers.
-ghost use Rattle.std.specs.Prelude.{◌≡◌, ℕ, ◌≤◌, ◌++◌, Some, codes, decimal};
-ghost use Rattle.reading.specs.Refusals.{operand_number, operand_offset, refusal_number, refusal_offset};
+ghost use Rattle.std.specs.Prelude.{◌≡◌, ℕ, ◌≤◌, Some};
+ghost use Rattle.reading.specs.Refusals.{operand_number, operand_offset, refusal_line, refusal_number, refusal_offset};
 ghost use Rattle.reading.specs.declared.fault.CardFault.TheVariants.{Memory, Operand};
 
 use std::alloc::AllocError;
@@ -114,7 +114,7 @@ impl From<AllocError> for CardFault {
 }
 
 impl fmt::Display for CardFault {
-    ghost output = { λ e. Some (codes "card refused " ++ decimal (refusal_number e) ++ codes " at " ++ decimal (refusal_offset e)) };
+    ghost output = { λ e. Some (refusal_line (refusal_number e) (refusal_offset e)) };
 
     fn fmt<W: fmt::Write>(&self, f: &mut fmt::Formatter<W>) -> fmt::Result {
         let number = self.number();

@@ -1,7 +1,6 @@
 // Judging: which rule a decoded command breaks, seen from the card so far.
 // The rules are tested in the order of their numbers, 3 to 7.
-ghost use Rattle.std.specs.Prelude.{◌≡◌, ℕ, ◌+◌, ◌<◌, ◌≤◌, true, false, cond, not, length, Some, None, Ok, Err, MatchResult};
-ghost use Rattle.reading.specs.Commands.{overfull, stands};
+ghost use Rattle.std.specs.Prelude.{◌≡◌, ℕ, ◌+◌, ◌<◌, true, false, Some, None, Ok, Err, MatchResult};
 ghost use Rattle.reading.specs.Drafts.{draft_of};
 ghost use Rattle.card.specs.Netlists.{all_below, nets_read, nets};
 ghost use Rattle.reading.specs.Reading.{fault_of};

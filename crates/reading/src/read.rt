@@ -1,9 +1,9 @@
 // Reading a card: the bytes' commands, one after the other, into a draft, and the draft into the card that the caller lends.
 // A refusal leaves the lent card; memory is asked for last, when the bytes are known to spell a card.
-ghost use Rattle.std.specs.Prelude.{◌≡◌, ℕ, ◌+◌, ◌-◌, ◌^◌, ◌<◌, ◌≤◌, true, false, [], length, IfSome, IfOk, IfErr, Some, None, Ok, Err, MatchResult, OnErr, OnOk, ◌≢◌};
+ghost use Rattle.std.specs.Prelude.{◌≡◌, ℕ, ◌+◌, ◌-◌, ◌^◌, ◌<◌, ◌≤◌, false, length, IfSome, IfOk, IfErr, Some, None, Ok, Err, MatchResult, OnErr, OnOk, ◌≢◌};
 ghost use Rattle.reading.specs.Commands.{adds, late, overfull};
 ghost use Rattle.reading.specs.Drafts.{draft_of};
-ghost use Rattle.reading.specs.Reading.{Stepped, fault_of, nothing, reading, step_of};
+ghost use Rattle.reading.specs.Reading.{Stepped, nothing, reading, step_of};
 ghost use Rattle.card.specs.Netlists.{Lawful, Netlist};
 ghost use Rattle.reading.specs.Refusals.{refusal_number, refusal_offset};
 ghost use Rattle.reading.specs.Rules.{Accepted, Agree, Refused};

@@ -1,5 +1,5 @@
 // Writing a card: its canonical bytes, which read back to the same card.
-ghost use Rattle.std.specs.Prelude.{◌≡◌, ℕ, ◌/◌, ◌%◌, [], ◌∷◌, ◌++◌, replicate, IfOk, Ok, OnOk};
+ghost use Rattle.std.specs.Prelude.{◌≡◌, ℕ, ◌/◌, ◌++◌, IfOk, Ok, OnOk};
 ghost use Rattle.reading.specs.Commands.{net_bytes, spelled};
 ghost use Rattle.reading.specs.Reading.{reading};
 ghost use Rattle.reading.specs.Rules.{Accepted};

@@ -1,6 +1,5 @@
 // The three values of a net that is known to be 0, known to be 1, or unknown (X), as a kind of signal.
 // An answer is X exactly where bits that the operands allow, chosen independently, give both results; it is read from a table of nine.
-ghost use Rattle.std.specs.Prelude.{◌≡◌};
 ghost use Rattle.signal.specs.Exacts.{GatesExact};
 ghost use Rattle.signal.specs.Ternaries.{Allows, ternary_operations, UnknownWhereBothAreMade};
 ghost use Rattle.signal.specs.Unknowns.{ternary_inhabited, ternary_sound, ternary_exact};

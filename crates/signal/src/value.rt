@@ -45,12 +45,12 @@ fn end<S: Signal + Copy>(function: Function, x: S) -> S
 
 // A net that a gate makes, beside the line that sticks.
 #[derive(Clone, Copy)]
-pub(crate) struct Site {
+pub(crate) struct GateNet {
     pub(crate) stuck: Option<Stuck>,
     pub(crate) net: usize,
 }
 
-impl Site {
+impl GateNet {
     // The stuck level where the test holds, else the value.
     fn unless_stuck<S: Signal + Copy>(self, sticks: bool, x: S) -> S
         ensures is_the_level_or_the_value { result ≡ unless_stuck S.Signal.operations self.stuck sticks x }

@@ -10,7 +10,7 @@ ghost use Rattle.signal.specs.Walks.{entered, net_values};
 
 use crate::kind::Signal;
 use crate::line::{Line, Stuck};
-use crate::value::Site;
+use crate::value::GateNet;
 use card::netlist::Card;
 
 // Puts the stuck level in the place of an input that sticks.
@@ -43,6 +43,6 @@ pub fn walk<S: Signal + Copy>(card: &Card, stuck: Option<Stuck>, nets: &mut [S; 
     enter_stuck_input(inputs, stuck, nets);
     for (i, gate) in card.gates().iter().enumerate() {
         let net = inputs + i;
-        nets[net] = Site { stuck, net }.value(*gate, nets);
+        nets[net] = GateNet { stuck, net }.value(*gate, nets);
     }
 }

@@ -8,11 +8,8 @@ ghost use Rattle.tester.specs.Expecting.{answer_of, code_of, expectation, left_i
 
 use crate::fault::*;
 use crate::outputs::expected_outputs;
-use card::netlist::Card;
-use reading::fault::CardFault;
 use reading::read::from_bytes;
 use std::alloc::Global;
-use vectors::fault::VectorFault;
 use vectors::vector::Vector;
 
 // The same with the refusal as a value, the card's fault carried whole.

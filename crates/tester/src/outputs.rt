@@ -1,6 +1,6 @@
 // What the outputs of a good card show for a vector, as characters in a buffer that the caller lends.
 ghost use Rattle.std.specs.Prelude.{◌≡◌, ℕ, ◌≤◌, length, take, is_ok, IfOk, if◌then◌else◌, MatchResult, nat_le};
-ghost use Rattle.card.specs.Netlists.{Lawful, nets as net_count};
+ghost use Rattle.card.specs.Netlists.{nets as net_count};
 ghost use Rattle.card.specs.Views.{netlist_of};
 ghost use Rattle.vectors.specs.Views.{cells_of};
 ghost use Rattle.tester.specs.Characters.{characters, good_nets, Truthful};
@@ -20,7 +20,7 @@ fn show(card: &Card, vector: &Vector, nets: &[Ternary; 256], out: &mut [u8])
     requires room { length (netlist_of card.now).outputs ≤ length out.old }
     ensures writes_the_characters { out.new ≡ over (characters (netlist_of card.now) (cells_of vector.now)) out.old }
 {
-    // By index: after a zip with iter_mut nothing is known of the buffer's bytes.
+    // By index: tried with a zip and iter_mut, nothing is known of the buffer's bytes after it.
     for (i, net) in card.outputs().iter().enumerate() {
         out[i] = character(nets[*net as usize]);
     }
