@@ -4,24 +4,16 @@
 
 use card::netlist::Card;
 use console::card_named;
-use faults::catching::catches;
 use faults::model::FaultModel;
 use std::alloc::{AllocError, Global};
 use std::io::{BufRead, BufReader};
 use vectors::row::row;
 use vectors::vector::Vector;
 
-// Whether the vector catches the fault of this number.
-fn is_caught(model: &FaultModel, fault: usize, vector: &Vector) -> bool {
-    model
-        .line(fault)
-        .is_ok_and(|stuck| catches(model.card(), stuck, vector))
-}
-
 // The numbers of the faults that the vector catches, rising.
 fn caught_by(heap: Global, model: &FaultModel, vector: &Vector) -> Result<Vec<usize>, AllocError> {
     (0..model.fault_count())
-        .filter(|fault| is_caught(model, *fault, vector))
+        .filter(|fault| model.catches(*fault, vector))
         .collect(heap)
 }
 

@@ -65,7 +65,7 @@ fn answer(
         return Ok(());
     };
     if let Err(refusal) = pose(solver, model, fault) {
-        println!(rt; "refused {}", refusal.number())?;
+        println!(rt; "{refusal}")?;
         return Ok(());
     }
     let text = text(rt.alloc(), model.card(), solver)?;

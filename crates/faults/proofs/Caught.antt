@@ -1,7 +1,7 @@
 -- A catch at an output is shown there by every filling; where no cell is free, a showing is a catch.
-use Rattle.std.proofs.Common.{◌≡◌, ℕ, zero, suc, ◌<◌, Bool, true, false, not, ◌||◌, List, [], ◌∷◌, length, get_or, take, Some, None, Decides, Option, sym, refl, ap, ◌∙◌, subst, ap₂, ⊎_elim, arith}
+use Rattle.std.proofs.Common.{◌≡◌, ℕ, zero, suc, ◌/◌, ◌%◌, ◌<◌, ◌≤◌, Bool, true, false, not, ◌||◌, eqb, List, [], ◌∷◌, length, get_or, take, Some, None, Ok, Err, is_ok, ltb, Decides, MatchResult, Option, Result, sym, refl, ap, ◌∙◌, subst, ap₂, ⊎_elim, arith}
 use Rattle.std.proofs.lemmas.List.{get_or_default}
-use Rattle.std.proofs.lemmas.Bool.{false≢true, or_cases, or_left, or_right, true≢false}
+use Rattle.std.proofs.lemmas.Bool.{false≢true, ltb-false, or_cases, or_left, or_right, true≢false}
 use Rattle.card.specs.Netlists.{Lawful, Netlist, all_below, nets}
 use Rattle.signal.specs.declared.line.Stuck.{Stuck}
 use Rattle.signal.specs.declared.ternary.Ternary.{Ternary}
@@ -20,8 +20,12 @@ use Rattle.signal.specs.Unknowns.{ternary_exact, ternary_sound}
 use Rattle.signal.proofs.Walked.{length_net_values}
 use Rattle.vectors.specs.Vectors.{Cells, Fills, bit_at, cell_of, start}
 use Rattle.vectors.proofs.Fillings.{cells_at, filled_by_the_allowed, length_cells}
-use Rattle.faults.specs.Catching.{AllFixed, ShownByEveryFilling, catches, caught_at, opposite, opposite_at, opposite_somewhere, ternary_nets}
+use Rattle.faults.specs.Catching.{AllFixed, ShownByEveryFilling, catches, catches_fault, caught_at, caught_if, opposite, opposite_at, opposite_somewhere, ternary_nets}
 use Rattle.faults.specs.Showing.{Shows, ShowsAt, output_bit, output_net}
+use Rattle.faults.specs.Sites.{fault_count, stuck_at, stuck_of}
+use Rattle.faults.specs.declared.refusal.FaultRefusal.{FaultRefusal}
+use Rattle.faults.specs.declared.refusal.FaultRefusal.TheVariants.{NoSuchFault}
+use Rattle.faults.proofs.Sited.{no_line_past}
 
 -- ---- some net of a list
 
@@ -143,3 +147,18 @@ catches_read c s v xs ys starts begins os r l e p q x y t =
     t ∙ ap (opposite_somewhere xs ys) e
     ∙ somewhere_read (nets c) xs ys (ternary_nets c None v) (ternary_nets c (Some s) v) c.outputs l.outputs_declared
     (x ∙ ap (net_values ternary_operations None c) p) (y ∙ ap (net_values ternary_operations (Some s) c) q)
+
+-- ---- by a fault's number
+
+no_fault_past : (c : Netlist) (f : ℕ) → fault_count c ≤ f → stuck_of c f ≡ None
+no_fault_past c f h = ap (stuck_at (eqb (f % 2) 1)) (no_line_past c (f / 2) (omega (arith, h)))
+
+caught_by_line : (c : Netlist) (f : ℕ) (v : Cells) (t : Option Stuck) (b : Bool) → stuck_of c f ≡ t → b ≡ caught_if c t v → b ≡ catches_fault c f v
+unfolding catches_fault
+caught_by_line c f v t b is e = e ∙ ap (λ (u : Option Stuck). caught_if c u v) (sym is)
+
+-- what is asked of the line of a fault that the card has, and false of any other
+pub caught_by_number : (c : Netlist) (f : ℕ) (v : Cells) (line : Result Stuck FaultRefusal) (Asked : Stuck → Type 0) (b : Bool) → ((s : Stuck) → Asked s → b ≡ catches c s v)
+    → is_ok line ≡ ltb f (fault_count c) → MatchResult line (λ s. stuck_of c f ≡ Some s) (λ e. e ≡ NoSuchFault) → MatchResult line Asked (λ _. b ≡ false) → b ≡ catches_fault c f v
+caught_by_number c f v (Ok s) Asked b asks has is said = caught_by_line c f v (Some s) b is (asks s said)
+caught_by_number c f v (Err e) Asked b asks has is said = caught_by_line c f v None b (no_fault_past c f (ltb-false f (fault_count c) (sym has))) said

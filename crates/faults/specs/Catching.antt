@@ -10,6 +10,7 @@ use Rattle.signal.specs.Ternaries.{ternary_operations}
 use Rattle.signal.specs.Walks.{net_values}
 use Rattle.vectors.specs.Vectors.{Cells, Fills, bit_at, start}
 use Rattle.faults.specs.Showing.{ShowsAt, output_net}
+use Rattle.faults.specs.Sites.{stuck_of}
 
 -- one of the two is 0 and the other 1
 abbrev pub opposite : Ternary → Ternary → Bool
@@ -40,6 +41,14 @@ caught_at c s v i = opposite_at (ternary_nets c None v) (ternary_nets c (Some s)
 -- the vector catches the fault at some output
 abbrev pub catches : Netlist → Stuck → Cells → Bool
 catches c s v = opposite_somewhere (ternary_nets c None v) (ternary_nets c (Some s) v) c.outputs
+
+-- the vector catches the fault, if the card has it
+abbrev pub caught_if : Netlist → Option Stuck → Cells → Bool
+caught_if c None x = false
+caught_if c (Some s) x = catches c s x
+
+unfoldable pub catches_fault : Netlist → ℕ → Cells → Bool
+catches_fault c f x = caught_if c (stuck_of c f) x
 
 -- there is one output at which every filling of the vector shows the fault
 pub record ShownByEveryFilling (c : Netlist) (s : Stuck) (v : Cells) : Type 0 where

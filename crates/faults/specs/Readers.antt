@@ -1,5 +1,5 @@
 -- The readers of a netlist in one list, each with the line that it hangs on and the net that it reads.
--- Today every reader is a gate pin; another kind of reader joins by being put into `readers`.
+-- Every reader is a gate pin; another kind of reader would join by being put into `readers`.
 use Rattle.std.specs.Prelude.{ℕ, suc, Bool, List, [], ◌∷◌, ◌++◌, count_by, filter, ◌==◌, nat_le}
 use Rattle.card.specs.declared.gate.Gate.{Gate}
 use Rattle.card.specs.Netlists.{Netlist, pins_of}

@@ -1,7 +1,9 @@
 // Why a fault number is refused.
-// The case has the number that the refusal is reported by.
-ghost use Rattle.std.specs.Prelude.{◌≡◌};
-ghost use Rattle.faults.specs.Refusals.{fault_refusal};
+// The case has the number that the refusal is reported by, and is shown by it.
+ghost use Rattle.std.specs.Prelude.{◌≡◌, Some};
+ghost use Rattle.faults.specs.Refusals.{fault_refusal, refused_text};
+
+use std::fmt;
 
 #[derive(Clone, Copy)]
 pub enum FaultRefusal {
@@ -15,5 +17,14 @@ impl FaultRefusal {
         ensures is_the_refusals_number { result ≡ fault_refusal self }
     {
         self as u8
+    }
+}
+
+impl fmt::Display for FaultRefusal {
+    ghost output = { λ why. Some (refused_text (fault_refusal why)) };
+
+    fn fmt<W: fmt::Write>(&self, f: &mut fmt::Formatter<W>) -> fmt::Result {
+        let number = self.number();
+        write!(f, "refused {number}")
     }
 }

@@ -4,10 +4,10 @@ use Rattle.std.proofs.lemmas.Bool.{cases_eq, false≢true}
 use Rattle.card.specs.Netlists.{Lawful, Netlist}
 use Rattle.vectors.specs.Vectors.{Cells, holding, bits_from}
 use Rattle.vectors.proofs.Fillings.{value_fills}
+use Rattle.faults.specs.Catching.{catches_fault}
 use Rattle.solving.specs.declared.verdict.Solved.{Solved}
 use Rattle.asking.specs.Findings.{Finding, shown, unknown, untestable}
 use Rattle.history.specs.Changing.{entering, renamed, sweeping}
-use Rattle.history.specs.Granting.{catches_fault}
 use Rattle.history.specs.Histories.{AmpleSearch, History, LeadsTo, Run}
 use Rattle.history.specs.Promises.{Keeps, LawOfJobs, NoSettingShows, Promise, Settled, ShownByFillings}
 use Rattle.history.specs.Steps.{Event, KnownTicket, Step, added, closed, merged, searched, swept, took}

@@ -6,10 +6,11 @@ use Rattle.std.proofs.lemmas.Bool.{and_parts, cases_Bool, cases_lt, false≢true
 use Rattle.card.specs.Netlists.{Netlist}
 use Rattle.signal.specs.declared.line.Stuck.{Stuck}
 use Rattle.vectors.specs.Vectors.{Cells}
+use Rattle.faults.specs.Catching.{catches_fault, caught_if}
 use Rattle.faults.specs.Sites.{stuck_of}
 use Rattle.faults.proofs.Caught.{catch_shown}
 use Rattle.history.specs.Changing.{sweeping, swept_mark}
-use Rattle.history.specs.Granting.{catches_fault, caught_if, sweep_marks}
+use Rattle.history.specs.Granting.{sweep_marks}
 use Rattle.history.specs.Histories.{AmpleSearch, AmplySearched, History}
 use Rattle.history.specs.Promises.{ShownByFillings}
 use Rattle.history.specs.Steps.{swept}

@@ -1,13 +1,12 @@
 -- When each call is granted, and with which refusal it is refused, in the order of the tests.
 -- A search is answered by a solver, so only its refusals stand here.
-use Rattle.std.specs.Prelude.{ℕ, Bool, false, cond, not, ◌&&◌, map, length, Some, None, Ok, Err, count_by, Option, Result, ◌==◌, nat_lt}
+use Rattle.std.specs.Prelude.{ℕ, Bool, cond, not, ◌&&◌, map, length, Ok, Err, count_by, Result, ◌==◌, nat_lt}
 use Rattle.std.specs.List.{range_with_len}
 use Rattle.card.specs.Netlists.{Netlist}
-use Rattle.signal.specs.declared.line.Stuck.{Stuck}
 use Rattle.vectors.specs.Merging.{mergeable}
-use Rattle.vectors.specs.Vectors.{Cells, in_form}
-use Rattle.faults.specs.Catching.{catches}
-use Rattle.faults.specs.Sites.{fault_count, stuck_of}
+use Rattle.vectors.specs.Vectors.{in_form}
+use Rattle.faults.specs.Catching.{catches_fault}
+use Rattle.faults.specs.Sites.{fault_count}
 use Rattle.history.specs.Views.{View, is_open, is_taken, mark, most, vector_at}
 use Rattle.history.specs.declared.refusal.TakeRefusal.{TakeRefusal}
 use Rattle.history.specs.declared.refusal.TakeRefusal.TheVariants as take
@@ -30,14 +29,6 @@ searches v f = cond (is_taken v f) (cond (is_open (mark v f)) (cond (nat_lt (len
 
 abbrev pub closes : View → ℕ → Result (Unit {0}) CloseRefusal
 closes v f = cond (is_taken v f) (Ok tt) (Err close.NotTaken)
-
--- the vector catches the fault, if the card has it
-abbrev pub caught_if : Netlist → Option Stuck → Cells → Bool
-caught_if c None x = false
-caught_if c (Some s) x = catches c s x
-
-unfoldable pub catches_fault : Netlist → ℕ → Cells → Bool
-catches_fault c f x = caught_if c (stuck_of c f) x
 
 -- a sweep by vector i marks this fault: it is open, not taken, and caught
 abbrev pub sweep_marks : Netlist → View → ℕ → ℕ → Bool

@@ -9,8 +9,9 @@ use Rattle.card.specs.Netlists.{Netlist}
 use Rattle.vectors.specs.Vectors.{Cells}
 use Rattle.vectors.specs.Views.{cells_of}
 use Rattle.vectors.specs.declared.vector.Vector.{Vector}
+use Rattle.faults.specs.Catching.{catches_fault}
 use Rattle.history.specs.Changing.{sweeping, swept_mark}
-use Rattle.history.specs.Granting.{catches_fault, sweep_count, sweeps}
+use Rattle.history.specs.Granting.{sweep_count, sweeps}
 use Rattle.history.specs.Views.{View, blank, is_open, is_taken, mark, vector_at}
 use Rattle.history.specs.declared.mark.Mark.{Mark}
 use Rattle.history.specs.declared.mark.Mark.TheVariants.{Open, Detected}
@@ -38,10 +39,6 @@ pub record SweptTo (c : Netlist) (v : View) (i : ℕ) (x : Cells) (f n : ℕ) (y
   pub todo : (g : ℕ) → f ≤ g → mark_at ys g ≡ mark v g
   pub count : n ≡ count_by (λ b. b) (map (sweeps_by c v x) (range_with_len 0 f))
   pub few : n ≤ f
-
-pub swept_none : (c : Netlist) (v : View) (i : ℕ) (x : Cells) (xs : List Marked) → map mark_of xs ≡ v.marks → map taken_of xs ≡ v.taken → SweptTo c v i x 0 0 xs
-swept_none c v i x xs ms ts =
-    record { taken = ts; long = sym (length-map xs mark_of) ∙ ap length ms; done = λ g lt. absurd (omega arith); todo = λ g le. ap (λ (l : List Mark). get_or l g Open) ms; count = refl; few = omega arith }
 
 module _ (c : Netlist) (v : View) (i : ℕ) (x : Cells) (f n : ℕ) (ys : List Marked) (s : Marked) (lt : f < length ys) (is : s ≡ get_or ys f s) (so : SweptTo c v i x f n ys) where
   -- the test was made of what stood there at first

@@ -1,23 +1,17 @@
 -- What single calls make of the lists that a job holds.
-use Rattle.std.proofs.Common.{◌≡◌, ℕ, zero, suc, ◌+◌, ◌/◌, ◌%◌, ◌<◌, ◌≤◌, Bool, true, false, cond, eqb, ltb, List, [], ◌∷◌, ◌++◌, map, replicate, length, get_or, set, Some, None, Ok, Err, Option, vec_items, count_by, sym, refl, ap, ◌∙◌, subst, arith}
+use Rattle.std.proofs.Common.{◌≡◌, ℕ, zero, suc, ◌+◌, ◌≤◌, Bool, true, false, cond, ltb, List, [], ◌∷◌, ◌++◌, map, replicate, length, get_or, set, Ok, Err, vec_items, count_by, sym, refl, ap, ◌∙◌, subst}
 use lib.ListN.{length-map}
 use Rattle.std.proofs.lemmas.List.{map-set, map_push, set-get_or}
 use Rattle.std.proofs.lemmas.List.Sums.{sum_by-cons}
-use Rattle.std.proofs.lemmas.Bool.{le-ltb, lt-ltb}
+use Rattle.std.proofs.lemmas.Bool.{le-ltb}
 use Rattle.card.specs.Netlists.{Netlist}
-use Rattle.signal.specs.declared.line.Stuck.{Stuck}
 use Rattle.vectors.specs.Vectors.{Cells}
 use Rattle.vectors.specs.Views.{cells_of}
 use Rattle.vectors.specs.declared.vector.Vector.{Vector}
-use Rattle.faults.specs.Catching.{catches}
-use Rattle.faults.specs.Sites.{fault_count, stuck_at, stuck_of}
-use Rattle.faults.proofs.Sited.{no_line_past}
-use Rattle.solving.specs.Models.{Model}
-use Rattle.solving.specs.declared.verdict.Solved.{Solved}
-use Rattle.asking.specs.Findings.{Asks, Finding, shown, untestable}
+use Rattle.faults.specs.Sites.{fault_count}
+use Rattle.asking.specs.Findings.{Finding, shown, untestable}
 use Rattle.history.specs.Changing.{adding, entering}
-use Rattle.history.specs.Granting.{catches_fault, caught_if, searches}
-use Rattle.history.specs.Steps.{Searched}
+use Rattle.history.specs.Granting.{searches}
 use Rattle.history.specs.Views.{View, is_open, is_taken, mark, most, new_view}
 use Rattle.history.specs.declared.mark.Mark.{Mark}
 use Rattle.history.specs.declared.mark.Mark.TheVariants.{Detected, Open, Untestable}
@@ -25,19 +19,6 @@ use Rattle.history.specs.declared.refusal.SearchRefusal.TheVariants as seek
 use Rattle.job.specs.Tables.{card_of, mark_of, taken_of, view_of}
 use Rattle.job.specs.declared.shown.Marked.{Marked}
 use Rattle.job.specs.declared.table.Table.{Table}
-
--- ---- catching by number
-
-pub no_fault_past : (c : Netlist) (f : ℕ) → fault_count c ≤ f → stuck_of c f ≡ None
-no_fault_past c f h = ap (stuck_at (eqb (f % 2) 1)) (no_line_past c (f / 2) (omega (arith, h)))
-
-pub caught_by_line : (c d : Netlist) (f : ℕ) (s : Stuck) (x : Cells) (r : Bool) → d ≡ c → stuck_of c f ≡ Some s → r ≡ catches d s x → r ≡ catches_fault c f x
-unfolding catches_fault
-caught_by_line c d f s x r same is e = e ∙ ap (λ (n : Netlist). catches n s x) same ∙ ap (λ (t : Option Stuck). caught_if c t x) (sym is)
-
-pub uncaught_past : (c : Netlist) (f : ℕ) (x : Cells) → fault_count c ≤ f → false ≡ catches_fault c f x
-unfolding catches_fault
-uncaught_past c f x h = ap (λ (t : Option Stuck). caught_if c t x) (sym (no_fault_past c f h))
 
 -- ---- marks and flags
 
@@ -111,7 +92,7 @@ added_last ms ts xs ys x z is p =
     let q : map cells_of ys ≡ map cells_of xs ++ (z ∷ []) = ap (map cells_of) p ∙ map_push cells_of xs x ∙ ap (λ (y : Cells). map cells_of xs ++ (y ∷ [])) is in
     λ i. record { marks = ms; taken = ts; vectors = q i }
 
--- ---- granted and refused searches
+-- ---- refused searches
 
 module _ (v : View) (f : ℕ) (held : true ≡ is_taken v f) (undecided : true ≡ is_open (mark v f)) where
   tested : searches v f ≡ cond (ltb (length v.vectors) most) (Ok tt) (Err seek.Full)
@@ -120,9 +101,6 @@ module _ (v : View) (f : ℕ) (held : true ≡ is_taken v f) (undecided : true �
       let b : is_open (mark v f) ≡ true = sym undecided in
       λ i. cond (a i) (cond (b i) (cond (ltb (length v.vectors) most) (Ok tt) (Err seek.Full)) (Err seek.Decided)) (Err seek.NotTaken)
 
-  pub search_granted : length v.vectors < most → searches v f ≡ Ok tt
-  search_granted lt = tested ∙ ap (λ (b : Bool). cond b (Ok tt) (Err seek.Full)) (lt-ltb (length v.vectors) most lt)
-
   pub search_full : most ≤ length v.vectors → searches v f ≡ Err seek.Full
   search_full le = tested ∙ ap (λ (b : Bool). cond b (Ok tt) (Err seek.Full)) (le-ltb (length v.vectors) most le)
 
@@ -130,16 +108,3 @@ module _ (v : View) (f : ℕ) (held : true ≡ is_taken v f) (undecided : true �
 module _ (v : View) (g f : ℕ) (same : g ≡ f) (held : true ≡ is_taken v g) (undecided : true ≡ is_open (mark v g)) where
   pub full_answer : most ≤ length v.vectors → searches v f ≡ Err seek.Full
   full_answer le = subst (λ (k : ℕ). searches v k ≡ Err seek.Full) same (search_full v g held undecided le)
-
-  pub searched_answer : (c d : Netlist) (budget : ℕ) (solved : Solved) (n : Model) (w : View) (s : Stuck) (found : Finding) → length v.vectors < most
-      → stuck_of c g ≡ Some s → d ≡ c → Asks d s budget solved found n → w ≡ entering v g found → (searches v f ≡ Ok tt) × Searched c v f budget solved n w
-  searched_answer c d budget solved n w s found lt line card asks enters = (
-    subst (λ (k : ℕ). searches v k ≡ Ok tt) same (search_granted v g held undecided lt),
-    record {
-      stuck = s;
-      is_the_faults_line = subst (λ (k : ℕ). stuck_of c k ≡ Some s) same line;
-      found = found;
-      asks = subst (λ (k : Netlist). Asks k s budget solved found n) card asks;
-      enters = subst (λ (k : ℕ). w ≡ entering v k found) same enters;
-    },
-  )

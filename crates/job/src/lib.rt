@@ -4,7 +4,6 @@
 
 mod add;
 mod calls;
-mod catching;
 mod enter;
 pub mod job;
 mod merge;

@@ -15,6 +15,7 @@ use faults::refusal::FaultRefusal;
 use history::refusal::VectorRefusal;
 use vectors::vector::Vector;
 
+// Each states the law of jobs, a rule of the project.
 #[tactic(auto, using(crate::proofs::Reaching::stands))]
 impl Job {
     // The card.

@@ -1,4 +1,5 @@
-// What a job shows of itself.
+// What a job shows of itself: the mark of a fault, a listed vector with its outputs, and how many faults are in each state.
+// They are plain values, which hold no part of the job; since a job keeps a `Marked` for each fault, it can also lend all of them at once.
 ghost use Rattle.std.specs.Prelude.{◌≡◌, map, count_by};
 ghost use Rattle.history.specs.Views.{is_detected, is_open, is_untestable};
 ghost use Rattle.job.specs.Tables.{mark_of, taken_of};

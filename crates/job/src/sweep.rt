@@ -1,13 +1,12 @@
 // Sweep: every open fault, not taken, that a listed vector catches is marked detected by it.
 ghost use Rattle.std.specs.Prelude.{◌≡◌, not, ◌&&◌};
 ghost use Rattle.vectors.specs.Views.{cells_of};
+ghost use Rattle.faults.specs.Catching.{catches_fault};
 ghost use Rattle.faults.specs.Views.{modelled};
-ghost use Rattle.history.specs.Granting.{catches_fault};
 ghost use Rattle.history.specs.Steps.{swept};
 ghost use Rattle.history.specs.Views.{is_open};
 ghost use Rattle.job.specs.Tables.{Led};
 
-use crate::catching::catches_fault;
 use crate::shown::Marked;
 use crate::table::Table;
 use faults::model::FaultModel;
@@ -19,7 +18,7 @@ use vectors::vector::Vector;
 fn sweep_marks(faults: &FaultModel, fault: usize, state: Marked, vector: &Vector) -> bool
     ensures open_not_taken_and_caught { result ≡ (is_open state.mark && (not state.taken && catches_fault (modelled faults.now) fault (cells_of vector.now))) }
 {
-    state.mark.is_open() && !state.taken && catches_fault(faults, fault, vector)
+    state.mark.is_open() && !state.taken && faults.catches(fault, vector)
 }
 
 impl Table {

@@ -89,11 +89,7 @@ fn cells(heap: Global, vector: &Vector, count: usize) -> Result<String, AllocErr
         .collect(heap)
 }
 
-fn print_refused(rt: &HostRuntime, number: u8) -> anyhow::Result<()> {
-    println!(rt; "refused {number}")?;
-    Ok(())
-}
-
+// The words that follow are the program's alone.
 fn print_marked(rt: &HostRuntime, shown: Marked) -> anyhow::Result<()> {
     let taken = if shown.taken { " taken" } else { "" };
     match shown.mark {
@@ -136,16 +132,17 @@ impl Shift<'_> {
             Reply::Added(vector) => println!(self.rt; "added {vector}")?,
             Reply::Merged => println!(self.rt; "merged")?,
             Reply::NoTicket => println!(self.rt; "no ticket")?,
-            Reply::Refused(refusal) => print_refused(self.rt, refusal.number())?,
+            Reply::Refused(refusal) => println!(self.rt; "{refusal}")?,
         }
         Ok(())
     }
 
     fn print_mark(&self, fault: usize) -> anyhow::Result<()> {
         match self.desk.job().mark(fault) {
-            Ok(shown) => print_marked(self.rt, shown),
-            Err(refusal) => print_refused(self.rt, refusal.number()),
+            Ok(shown) => print_marked(self.rt, shown)?,
+            Err(refusal) => println!(self.rt; "{refusal}")?,
         }
+        Ok(())
     }
 
     // The cells of a listed vector, and those of its outputs.
@@ -160,9 +157,10 @@ impl Shift<'_> {
 
     fn print_vector(&self, number: usize) -> anyhow::Result<()> {
         match self.desk.job().vector(number) {
-            Ok(listed) => self.print_listed(listed),
-            Err(refusal) => print_refused(self.rt, refusal.number()),
+            Ok(listed) => self.print_listed(listed)?,
+            Err(refusal) => println!(self.rt; "{refusal}")?,
         }
+        Ok(())
     }
 
     fn print_counts(&self) -> anyhow::Result<()> {

@@ -1,14 +1,12 @@
-use Rattle.std.proofs.Common.{◌≡◌, ℕ, ◌<◌, true, false, cond, List, map, get_or, is_ok, Err, vec_items, Result, sym, refl, ap, ◌∙◌, arith}
+use Rattle.std.proofs.Common.{◌≡◌, ℕ, ◌<◌, true, List, map, get_or, vec_items, sym, refl, ap, ◌∙◌, arith}
 use Rattle.std.proofs.lemmas.List.{with_items_is}
-use Rattle.std.proofs.lemmas.Result.{err_from_is_err_and}
 use Rattle.vectors.specs.Merging.{mergeable, union}
 use Rattle.vectors.specs.Vectors.{Cells}
 use Rattle.vectors.specs.Views.{cells_of}
 use Rattle.vectors.specs.declared.vector.Vector.{Vector}
-use Rattle.history.specs.Changing.{merging, renamed}
+use Rattle.history.specs.Changing.{renamed}
 use Rattle.history.specs.Views.{vector_at}
-use Rattle.history.specs.declared.refusal.MergeRefusal.{MergeRefusal}
-use Rattle.job.specs.Tables.{granted, mark_of, taken_of, view_of}
+use Rattle.job.specs.Tables.{mark_of, taken_of, view_of}
 use Rattle.job.specs.declared.shown.Marked.{Marked}
 use Rattle.job.specs.declared.table.Table.{Table}
 use Rattle.job.proofs.Merging.{merged_view, two_vectors}
@@ -19,26 +17,6 @@ use Rattle.job.proofs.table.Table.merge.Goals as goal
 -- the cells of the two vectors that were read
 listed : (t : Table) (n i : ℕ) (x : Vector) → n ≡ t.vectors.len → i < n → x ≡ get_or (vec_items t.vectors) i x → cells_of x ≡ vector_at (view_of t) i
 listed t n i x e lt is = cells_listed (vec_items t.vectors) i x (omega (arith, lt, e, t.vectors.ok.0)) is
-
-pub returns-in_err-both : goal.returns-in_err-both
-returns-in_err-both c =
-    let t : Table = c.args.self.now in
-    let n = c.len-count.ensures ∙ all_listed t in
-    let a = listed t c.len-count.result c.args.into c.index.result.now c.len-count.ensures c.if-into-count.false c.index.ensures in
-    let b = listed t c.len-count.result c.args.gone c.index-2.result.now c.len-count.ensures c.if-gone-count.false c.index-2.ensures in
-    let unfit : false ≡ mergeable (vector_at (view_of t) c.args.into) (vector_at (view_of t) c.args.gone) =
-    c.in_err-both.ensures.merged_exactly_if_no_bit_clashes ∙ ap (λ (x : Cells). mergeable x (cells_of c.index-2.result.now)) a ∙ ap (mergeable (vector_at (view_of t) c.args.into)) b in
-    let told = two_vectors (view_of t) c.args.into c.args.gone (omega (arith, c.if-into-count.false, n)) (omega (arith, c.if-gone-count.false, n)) c.if-into-gone.false false unfit in
-    let (why, is, opposite) = err_from_is_err_and c.from_residual.result c.from_residual.ensures.1 in
-    record {
-      leads_on = record {
-        the_card_stays = refl;
-        is_a_step = (
-          ap granted is ∙ ap Err opposite ∙ sym told,
-          ap (λ (r : Result (Unit {0}) MergeRefusal). cond (is_ok (granted r)) (merging (view_of t) c.args.into c.args.gone) (view_of t)) (sym is),
-        );
-      };
-    }
 
 pub returns : goal.returns
 returns c =
