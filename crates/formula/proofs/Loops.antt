@@ -1,29 +1,20 @@
 -- One turn of the loops that put links, and the calls of the encoder one after another.
-use Rattle.std.proofs.Common.{◌≡◌, ℕ, zero, suc, ◌+◌, ◌-◌, ◌<◌, ◌≤◌, true, cond, List, [], ◌∷◌, ◌++◌, length, get_or, drop, ℤ, pos, Some, None, Option, sym, refl, ap, ◌∙◌, add-one, arith}
+use Rattle.std.proofs.Common.{◌≡◌, ℕ, zero, suc, ◌+◌, ◌-◌, ◌<◌, ◌≤◌, true, cond, List, [], ◌∷◌, ◌++◌, length, ℤ, pos, Some, None, Option, sym, refl, ap, ◌∙◌, add-one, arith}
 use Rattle.std.proofs.lemmas.Bool.{and_from, le-leb}
-use Rattle.std.proofs.lemmas.List.{at_drop_more}
 use Rattle.std.proofs.lemmas.Grind.{flat_map-append}
 use Rattle.std.specs.List.{flat_map}
-use Rattle.card.specs.declared.gate.Gate.{Gate}
 use Rattle.card.specs.Netlists.{Netlist, nets}
 use Rattle.signal.specs.declared.line.Stuck.{Stuck}
 use Rattle.signal.specs.Walks.{sticks_net}
 use Rattle.solving.specs.Models.{Model, begun, startable}
 use Rattle.formula.specs.Formulas.{differences, formula_of}
-use Rattle.formula.specs.Links.{Link, clauses_of, copies, gate_link, gate_links, input_links, link, links, output_links, tied}
+use Rattle.formula.specs.Links.{Link, clauses_of, copies, gate_links, input_links, link, links, output_links, tied}
 use Rattle.formula.specs.Posing.{given, rising}
 use Rattle.formula.specs.Variables.{difference, faulty, good, stuck_line}
 use Rattle.formula.proofs.Puts.{given_given}
 
 link_more : (m after : Model) (l : Link) (ls : List Link) → after ≡ given m (clauses_of l) → given after (flat_map clauses_of ls) ≡ given m (flat_map clauses_of (l ∷ ls))
 link_more m after l ls e = ap (λ x. given x (flat_map clauses_of ls)) e ∙ given_given m (clauses_of l) (flat_map clauses_of ls)
-
-pub gates_more : (v : ℕ → ℕ) (line : ℕ) (t : Option Stuck) (m after : Model) (gs : List Gate) (i j k : ℕ) (d : Gate) → i < length gs → k ≡ suc j → after ≡ given m (clauses_of (gate_link v line t j (get_or gs i d)))
-    → given after (flat_map clauses_of (gate_links v line t k (drop (i + 1) gs))) ≡ given m (flat_map clauses_of (gate_links v line t j (drop i gs)))
-gates_more v line t m after gs i j k d l e h =
-    ap (λ n. given after (flat_map clauses_of (gate_links v line t n (drop (i + 1) gs)))) e
-    ∙ link_more m after (gate_link v line t j (get_or gs i d)) (gate_links v line t (suc j) (drop (i + 1) gs)) h
-    ∙ sym (at_drop_more (λ xs. given m (flat_map clauses_of (gate_links v line t j xs))) gs i d l)
 
 pub inputs_more : (m after : Model) (n k j : ℕ) (t : Option Stuck) → j < k → after ≡ given m (clauses_of (copies (faulty n j) (cond (sticks_net t j) (stuck_line n) (good j))))
     → given after (flat_map clauses_of (input_links n t (j + 1) (k - (j + 1)))) ≡ given m (flat_map clauses_of (input_links n t j (k - j)))

@@ -10,7 +10,8 @@ use crate::gates::put_gates;
 use crate::nets::put_inputs;
 use crate::outputs::{put_differences, put_outputs};
 use crate::put::put;
-use crate::variables::{Side, variable_count};
+use crate::side::Side;
+use crate::variables::{Variable, variable_count};
 use card::function::Function;
 use card::netlist::Card;
 use signal::line::Stuck;
@@ -30,17 +31,16 @@ pub fn encode<S: Solver>(solver: &mut S, card: &Card, stuck: Stuck)
     ensures formula_is_led { LedByInputs (netlist_of card.now) stuck }
     ensures formula_is_within_the_solvers_limits { Fits (netlist_of card.now) stuck }
 {
-    let good = Side::of(card, None);
-    let faulty = Side::of(card, Some(stuck));
-    let inputs = card.inputs();
-    let gates = card.gates();
-    let outputs = card.outputs();
-    let line = faulty.line();
-    let _ = solver.start(variable_count(card), inputs as u16);
-    put_gates(solver, good, inputs, gates);
-    put(solver, tied(stuck.level), &[line]);
-    put_inputs(solver, faulty, inputs);
-    put_gates(solver, faulty, inputs, gates);
-    put_outputs(solver, faulty, outputs);
-    put_differences(solver, faulty, outputs.len());
+    let good = Side { card, stuck: None };
+    let faulty = Side {
+        card,
+        stuck: Some(stuck),
+    };
+    let _ = solver.start(variable_count(card), card.inputs() as u16);
+    put_gates(solver, good);
+    put(solver, tied(stuck.level), &[Variable::stuck_line(card)]);
+    put_inputs(solver, faulty);
+    put_gates(solver, faulty);
+    put_outputs(solver, card);
+    put_differences(solver, card);
 }

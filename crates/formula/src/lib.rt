@@ -9,6 +9,7 @@ mod nets;
 mod outputs;
 pub mod pose;
 mod put;
+mod side;
 mod table;
 mod variables;
 

@@ -1,13 +1,11 @@
 // The variables of a formula: the nets of the good card, those of the faulty card, the stuck line, the outputs.
 // The numbering stands here and in `Variables`, and nowhere else.
-ghost use Rattle.std.specs.Prelude.{◌≡◌, suc, pred, ◌<◌, ◌≤◌, pos, negsuc, if◌then◌else◌};
-ghost use Rattle.card.specs.Netlists.{nets as count_nets};
+ghost use Rattle.std.specs.Prelude.{◌≡◌, suc, pred, ◌<◌, ◌≤◌, pos, negsuc, length, if◌then◌else◌};
+ghost use Rattle.card.specs.Netlists.{nets};
 ghost use Rattle.card.specs.Views.{netlist_of};
-ghost use Rattle.formula.specs.Posing.{net_variable};
 ghost use Rattle.formula.specs.Variables.{difference, faulty, good, stuck_line, variables};
 
 use card::netlist::Card;
-use signal::line::Stuck;
 
 // A variable, as every solver takes it.
 #[derive(Clone, Copy)]
@@ -28,6 +26,38 @@ impl Variable {
         }
     }
 
+    // The variable of a net of the good card.
+    pub(crate) fn good_net(net: usize) -> Variable
+        requires is_a_net_of_some_card { net < 256 }
+        ensures is_the_good_nets_variable { result.number ≡ good net }
+    {
+        Variable::at(net)
+    }
+
+    // The variable of a net of the faulty card. Each call asks that the net is the card's: it is a fact of both together, and a type of
+    // both would be made anew for each call.
+    pub(crate) fn faulty_net(card: &Card, net: usize) -> Variable
+        requires is_a_net { net < nets (netlist_of card.now) }
+        ensures is_the_faulty_nets_variable { result.number ≡ faulty (nets (netlist_of card.now)) net }
+    {
+        Variable::at(card.nets() + net)
+    }
+
+    // The variable of the stuck line.
+    pub(crate) fn stuck_line(card: &Card) -> Variable
+        ensures is_the_stuck_lines_variable { result.number ≡ stuck_line (nets (netlist_of card.now)) }
+    {
+        Variable::at(card.nets() + card.nets())
+    }
+
+    // The variable that says whether an output differs.
+    pub(crate) fn difference(card: &Card, output: usize) -> Variable
+        requires is_an_output { output < length (netlist_of card.now).outputs }
+        ensures is_the_outputs_variable { result.number ≡ difference (nets (netlist_of card.now)) output }
+    {
+        Variable::at(card.nets() + card.nets() + 1 + output)
+    }
+
     // The literal that is true where the variable has this bit.
     pub(crate) fn literal(self, bit: bool) -> i16
         ensures is_the_variable_or_its_negation { result ≡ (if bit then pos self.number else negsuc (pred self.number)) }
@@ -37,73 +67,9 @@ impl Variable {
     }
 }
 
-// One of the two cards that a formula speaks of, the good one or the faulty one with the line that sticks; it numbers the variables of both.
-#[derive(Clone, Copy)]
-pub(crate) struct Side {
-    pub(crate) nets: usize,
-    pub(crate) stuck: Option<Stuck>,
-    ghost few_nets: { nets ≤ 256 },
-}
-
-impl Side {
-    // A card on which this line sticks, or none.
-    pub(crate) fn of(card: &Card, stuck: Option<Stuck>) -> Side
-        ensures has_the_cards_nets { result.nets ≡ count_nets (netlist_of card.now) }
-        ensures has_the_line { result.stuck ≡ stuck }
-    {
-        Side {
-            nets: card.nets(),
-            stuck,
-        }
-    }
-
-    // The variable of a net of the good card. Each call asks that the net is the card's: it is a fact of both together, which the type
-    // of neither can carry.
-    pub(crate) fn good(self, net: usize) -> Variable
-        requires is_a_net { net < self.nets }
-        ensures is_the_good_nets_variable { result.number ≡ good net }
-    {
-        Variable::at(net)
-    }
-
-    // The variable of a net of the faulty card.
-    pub(crate) fn faulty(self, net: usize) -> Variable
-        requires is_a_net { net < self.nets }
-        ensures is_the_faulty_nets_variable { result.number ≡ faulty self.nets net }
-    {
-        Variable::at(self.nets + net)
-    }
-
-    // The variable of a net of this card.
-    pub(crate) fn net(self, net: usize) -> Variable
-        requires is_a_net { net < self.nets }
-        ensures is_the_nets_variable { result.number ≡ net_variable self.stuck self.nets net }
-    {
-        match self.stuck {
-            None => self.good(net),
-            Some(_) => self.faulty(net),
-        }
-    }
-
-    // The variable of the stuck line.
-    pub(crate) fn line(self) -> Variable
-        ensures is_the_lines_variable { result.number ≡ stuck_line self.nets }
-    {
-        Variable::at(self.nets + self.nets)
-    }
-
-    // The variable that says whether an output differs.
-    pub(crate) fn difference(self, output: usize) -> Variable
-        requires few_outputs { output < 32 }
-        ensures is_the_outputs_variable { result.number ≡ difference self.nets output }
-    {
-        Variable::at(self.nets + self.nets + 1 + output)
-    }
-}
-
 // How many variables there are.
 pub fn variable_count(card: &Card) -> u16
     ensures counts_the_variables { result ≡ variables (netlist_of card.now) }
 {
-    Side::of(card, None).line().number + card.outputs().len() as u16
+    Variable::stuck_line(card).number + card.outputs().len() as u16
 }

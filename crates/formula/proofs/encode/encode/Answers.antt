@@ -1,14 +1,12 @@
--- The calls give one part of the formula each, over the card's own counts and lists; the solver takes it all.
-use Rattle.std.proofs.Common.{◌≡◌, cond, [], ◌∷◌, length, Some, None, ap, ◌∙◌, arith}
-use Rattle.std.specs.List.{flat_map}
+-- The calls give one part of the formula each; the solver takes it all.
+use Rattle.std.proofs.Common.{◌≡◌, cond, [], ◌∷◌, ap, ◌∙◌, arith}
 use Rattle.card.specs.Netlists.{nets}
 use Rattle.card.specs.Views.{netlist_of}
 use Rattle.solving.specs.Models.{begun, startable}
 use Rattle.formula.specs.Formulas.{formula_of}
-use Rattle.formula.specs.Links.{clauses_of, gate_links, input_links, output_links}
-use Rattle.formula.specs.Posing.{given, net_variable, rising}
+use Rattle.formula.specs.Posing.{given}
 use Rattle.formula.specs.Rows.{over, rows}
-use Rattle.formula.specs.Variables.{difference, stuck_line, variables}
+use Rattle.formula.specs.Variables.{stuck_line, variables}
 use Rattle.formula.proofs.Loops.{encoded, was_started}
 use Rattle.formula.proofs.Ranged.{formula_taken}
 use Rattle.formula.proofs.Standing.{formula_stands}
@@ -21,17 +19,10 @@ returns g c =
     let lawful = c.args.card.now.lawful in
     let laws = formula_stands w s lawful in
     let model = g.S.Solver.model in
-    let ek : c.inputs-inputs.result ≡ w.inputs = c.inputs-inputs.ensures.counts_the_inputs in
-    let eg = c.gates-gates.ensures.are_the_gates in
-    let eo = c.outputs-outputs.ensures.are_the_outputs in
-    let ec : length c.outputs-outputs.result.now ≡ length w.outputs = ap length eo in
-    let nu : c.of-good.result.nets ≡ nets w = c.of-good.ensures.has_the_cards_nets in
-    let nt : c.of-good.result.stuck ≡ None = c.of-good.ensures.has_the_line in
-    let eu : c.of-faulty.result.nets ≡ nets w = c.of-faulty.ensures.has_the_cards_nets in
-    let et : c.of-faulty.result.stuck ≡ Some s = c.of-faulty.ensures.has_the_line in
-    let el : c.line-line.result.number ≡ stuck_line (nets w) = c.line-line.ensures.is_the_lines_variable ∙ ap stuck_line eu in
-    let ef = c.tied.ensures.is_the_constant_function in
+    let ek : c.inputs.result ≡ w.inputs = c.inputs.ensures.counts_the_inputs in
     let ev = c.variable_count.ensures.counts_the_variables in
+    let el : c.stuck_line.result.number ≡ stuck_line (nets w) = c.stuck_line.ensures.is_the_stuck_lines_variable in
+    let ef = c.tied.ensures.is_the_constant_function in
     let m0 = model c.args.solver.now in
     let m1 = model c.start.new.self in
     let m2 = model c.put_gates.new.solver in
@@ -43,12 +34,12 @@ returns g c =
     (c.start.ensures.state ∙ (λ i. cond (startable (ev i) (ek i)) (begun (ev i) (ek i)) m0)) in
     record {
       solver_holds_exactly_the_formula = encoded w s m1 m2 m3 m4 m5 m6 _
-          (c.put_gates.ensures.gives_the_gates_clauses_in_order ∙ (λ i. given m1 (flat_map clauses_of (gate_links (net_variable (nt i) (nu i)) (stuck_line (nu i)) (nt i) (ek i) (eg i)))))
+          c.put_gates.ensures.gives_the_gates_clauses_in_order
           (c.put.ensures.gives_the_functions_clauses ∙ (λ i. given m2 (over (el i ∷ []) (rows (ef i)))))
-          (c.put_inputs.ensures.gives_the_inputs_clauses_in_order ∙ (λ i. given m3 (flat_map clauses_of (input_links (eu i) (et i) 0 (ek i)))))
-          (c.put_gates-2.ensures.gives_the_gates_clauses_in_order ∙ (λ i. given m4 (flat_map clauses_of (gate_links (net_variable (et i) (eu i)) (stuck_line (eu i)) (et i) (ek i) (eg i)))))
-          (c.put_outputs.ensures.gives_the_outputs_clauses_in_order ∙ (λ i. given m5 (flat_map clauses_of (output_links (eu i) 0 (eo i)))))
-          (c.put_differences.ensures.gives_the_clause ∙ (λ i. given m6 (rising (difference (eu i) 0) (ec i) ∷ [])))
+          c.put_inputs.ensures.gives_the_inputs_clauses_in_order
+          c.put_gates-2.ensures.gives_the_gates_clauses_in_order
+          c.put_outputs.ensures.gives_the_outputs_clauses_in_order
+          c.put_differences.ensures.gives_the_clause
           ∙ ap (λ m. given m (formula_of w s)) h1 ∙ formula_taken w s lawful laws.fits;
       satisfying_readings_are_those_of_showing_settings = laws.means;
       formula_is_led = laws.led;
