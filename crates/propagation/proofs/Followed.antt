@@ -1,5 +1,5 @@
 -- What is pending, step by step: at the start of a search, after a decision, while one literal is followed up, and at the end.
-use Rattle.std.proofs.Common.{◌≡◌, ℕ, zero, suc, ◌+◌, ◌-◌, ◌*◌, ◌<◌, ◌≤◌, Bool, true, false, cond, not, ◌⊎◌, List, [], ◌∷◌, ◌++◌, length, get_or, take, drop, ℤ, pos, Some, None, Option, sym, refl, ap, ◌∙◌, subst, ap₂, inl, inr, true≢false, le_of_suc-le-suc, not-suc-le-zero, arith, length-append, length-drop, length-set, get_or-set_same}
+use Rattle.std.proofs.Common.{◌≡◌, ℕ, zero, suc, ◌+◌, ◌-◌, ◌*◌, ◌<◌, ◌≤◌, Bool, true, false, cond, not, ◌⊎◌, List, [], ◌∷◌, ◌++◌, length, get_or, take, drop, ℤ, pos, Some, None, Ok, Err, Option, sym, refl, ap, ◌∙◌, subst, ap₂, inl, inr, true≢false, le_of_suc-le-suc, not-suc-le-zero, arith, length-append, length-drop, length-set, get_or-set_same}
 use mathlib.Core.Bool.{false≢true}
 use native.Mathlib.Decide.{dec_lt, ℕ_discrete}
 use lib.Seq.{drop-append-le}
@@ -18,7 +18,6 @@ use Rattle.propagation.specs.Occurrences.{key, against, last_before, start_of, n
 use Rattle.propagation.specs.declared.occurrence.Occurrence.{Occurrence}
 use Rattle.propagation.specs.Trails.{Grown}
 use Rattle.propagation.specs.Following.{AtRest, Met, Inside, Pending, Looked, Left, Visiting, Pressed, rests, breaks, forces}
-use Rattle.propagation.specs.declared.scan.Pressing.TheVariants.{Broken, Unit as Lone}
 use Rattle.propagation.proofs.Weighed.{rest_made}
 use Rattle.propagation.proofs.Trailing.{grown_more, grown_longer}
 use Rattle.propagation.proofs.Reached.{reach_more}
@@ -177,7 +176,7 @@ look_none cs v front e = record { inside = λ i h. absurd (omega (arith, h, e));
 drop_at_rest : (v : Setting) (cs : List (List ℤ)) (n c i : ℕ) → c ≡ n + i → AtRest v (get_or (drop n cs) i []) → AtRest v (get_or cs c [])
 drop_at_rest v cs n c i e r = ap (λ j. state_of v (get_or cs j [])) e ∙ sym (ap (state_of v) (get_or-drop n cs i [])) ∙ r
 
-pub look_end : (cs : List (List ℤ)) (n : ℕ) (v : Setting) (front : List ℤ) → Looked cs n v front → foremost v n (drop n cs) ≡ None → Pending cs v front
+pub look_end : (cs : List (List ℤ)) (n : ℕ) (v : Setting) (front : List ℤ) → Looked cs n v front → foremost v n (drop n cs) ≡ Ok None → Pending cs v front
 look_end cs n v front k e = record { inside = k.inside; met = λ c h. go c h (dec_lt c n) } where
   go : (c : ℕ) → c < length cs → Dec (c < n) → AtRest v (get_or cs c []) ⊎ Met (get_or cs c []) front
   go c h (yes l) = k.met c l h
@@ -188,7 +187,7 @@ pub record Made (cs : List (List ℤ)) (k : ℕ) (v : Setting) (l : ℤ) (front 
   pub unit : state_of v (get_or cs k []) ≡ unit l
   pub looked : Looked cs (k + 1) (made v l) (front ++ (l ∷ []))
 
-pub look_unit : (cs : List (List ℤ)) (n k : ℕ) (v : Setting) (front : List ℤ) (l : ℤ) → Looked cs n v front → foremost v n (drop n cs) ≡ Some (Lone k l) → Made cs k v l front
+pub look_unit : (cs : List (List ℤ)) (n k : ℕ) (v : Setting) (front : List ℤ) (l : ℤ) → Looked cs n v front → foremost v n (drop n cs) ≡ Ok (Some (k, l)) → Made cs k v l front
 look_unit cs n k v front l q e = record {
   known = omega (arith, ld, m.inside, m.number);
   unit = u;
@@ -224,7 +223,7 @@ violated_drop v (c ∷ cs) (suc n) e = go (state_of v c) (violated_drop v cs n e
   go (unit l) p = p
   go other p = p
 
-pub look_broken : (cs : List (List ℤ)) (n k : ℕ) (v : Setting) → foremost v n (drop n cs) ≡ Some (Broken k) → violated v cs ≡ true
+pub look_broken : (cs : List (List ℤ)) (n k : ℕ) (v : Setting) → foremost v n (drop n cs) ≡ Err (record { clause = k }) → violated v cs ≡ true
 look_broken cs n k v e = violated_drop v cs n (broken_of v n k (drop n cs) e)
 
 module _ (row : List ℤ) (ends lasts : List ℕ) (places : List Occurrence) (ls : Listed row ends lasts places) where

@@ -1,6 +1,7 @@
 pub mod Stacks
 pub mod Scanning
 pub mod Trails
+pub mod Assignments
 pub mod Occurrences
 pub mod Clauses
 pub mod Following

@@ -1,22 +1,25 @@
 -- The scan: the first clause in the list that is false throughout or unit, by its number.
 -- The clauses stand in one row of literals, each by the place where it ends.
-use Rattle.std.specs.Prelude.{◌≡◌, ℕ, suc, ◌-◌, ◌≤◌, Bool, ◌&&◌, List, [], ◌∷◌, length, take, drop, ℤ, Some, None, Option, ◌==◌, nat_le}
+use Rattle.std.specs.Prelude.{◌≡◌, ℕ, suc, ◌-◌, ◌≤◌, Bool, ◌&&◌, List, [], ◌∷◌, length, take, drop, ℤ, Some, None, Option, Ok, Err, Result, ◌==◌, nat_le}
 use Rattle.std.specs.Coded.{Coded-set, coded_ℕ, ×_prop, le_prop}
 use Rattle.solving.specs.Settings.{Setting}
 use Rattle.solving.specs.declared.state.State.{State}
 use Rattle.solving.specs.declared.state.State.TheVariants.{Broken as broken, Lone as unit, Other as other}
 use Rattle.solving.specs.States.{state_of}
-use Rattle.propagation.specs.declared.scan.Pressing.{Pressing}
-use Rattle.propagation.specs.declared.scan.Pressing.TheVariants.{Broken, Unit as Lone}
+use Rattle.propagation.specs.declared.conflict.Violated.{Violated}
 
-abbrev pub or_later : ℕ → State → Option Pressing → Option Pressing
-or_later n broken later = Some (Broken n)
-or_later n (unit l) later = Some (Lone n l)
+-- the violated clause by its number; else the unit one by its number, with its open literal, if there is one
+abbrev pub Scan : Type 0
+Scan = Result (Option (ℕ × ℤ)) Violated
+
+abbrev pub or_later : ℕ → State → Scan → Scan
+or_later n broken later = Err (record { clause = n })
+or_later n (unit l) later = Ok (Some (n, l))
 or_later n other later = later
 
 -- the clauses are numbered from n
-unfoldable pub foremost : Setting → ℕ → List (List ℤ) → Option Pressing
-foremost a n [] = None
+unfoldable pub foremost : Setting → ℕ → List (List ℤ) → Scan
+foremost a n [] = Ok None
 foremost a n (c ∷ cs) = or_later n (state_of a c) (foremost a (suc n) cs)
 
 -- the clauses of a row from a place on, by the places where they end

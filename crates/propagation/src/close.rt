@@ -8,10 +8,11 @@ ghost use Rattle.propagation.specs.Trails.{Grown};
 ghost use Rattle.propagation.specs.Clauses.{clauses_of};
 ghost use Rattle.propagation.specs.Following.{Pending, Closes};
 
+use crate::assignment::Assignment;
 use crate::clauses::Clauses;
 use crate::conflict::Conflict;
 use crate::follow::follow;
-use crate::scan::{Pressing, scan};
+use crate::scan::scan;
 use crate::stack::Stack;
 use crate::trail::make;
 
@@ -28,15 +29,11 @@ pub fn begin(
     ensures grown { Grown values.old values.new (held trail.old) (held trail.new) }
     ensures space { room trail.new ≡ room trail.old }
 {
+    // By number: the scan goes on behind the clause that it named.
     let mut first = 0;
-    while let Some(pressing) = scan(clauses, values, first) {
-        match pressing {
-            Pressing::Broken(_) => return Err(Conflict),
-            Pressing::Unit(c, literal) => {
-                make(values, trail, literal);
-                first = c + 1;
-            }
-        }
+    while let Some((c, literal)) = scan(clauses, values, first)? {
+        make(values, trail, literal);
+        first = c + 1;
     }
     Ok(())
 }
@@ -56,4 +53,25 @@ pub fn close(
     let front = trail.len();
     begin(clauses, values, trail)?;
     follow(clauses, values, trail, front)
+}
+
+// The clauses stand beside the setting: in one type with it each call would have to promise too that they stay.
+impl Assignment<'_> {
+    // The same of an assignment: every clause looked at once.
+    pub fn begin(&mut self, clauses: Clauses) -> Result<(), Conflict>
+        ensures reached { Reaches (clauses_of clauses.entry) self.old.values.now self.new.values.now }
+        ensures broken { OnErr result (violated self.new.values.now (clauses_of clauses.entry) ≡ true) }
+        ensures pending { OnOk result (Pending (clauses_of clauses.entry) self.new.values.now (drop self.old.trail.len (held self.new.trail))) }
+        ensures grown { Grown self.old.values.now self.new.values.now (held self.old.trail) (held self.new.trail) }
+    {
+        begin(clauses, self.values, &mut self.trail)
+    }
+
+    // And closure.
+    pub fn close(&mut self, clauses: Clauses) -> Result<(), Conflict>
+        ensures closes { Closes (clauses_of clauses.entry) self.old.values.now self.new.values.now (is_ok result) }
+        ensures grown { Grown self.old.values.now self.new.values.now (held self.old.trail) (held self.new.trail) }
+    {
+        close(clauses, self.values, &mut self.trail)
+    }
 }

@@ -1,13 +1,13 @@
 // The calls of an index: it is opened with room for every formula, and filled with the places of one before a search.
-ghost use Rattle.std.specs.Prelude.{◌≡◌, ◌≤◌, length, IfOk, vec_len};
-ghost use Rattle.propagation.specs.Scanning.{Ends, clauses_from};
+ghost use Rattle.std.specs.Prelude.{◌≡◌, IfOk, vec_len};
 ghost use Rattle.propagation.specs.Occurrences.{Listed};
-ghost use Rattle.propagation.specs.Clauses.{clauses_of};
+ghost use Rattle.propagation.specs.Clauses.{clauses_in, clauses_of};
 
 use crate::clauses::Clauses;
 use crate::index::Index;
 use crate::list::list;
 use crate::occurrence::Occurrence;
+use crate::row::Row;
 use std::alloc::{AllocError, Global};
 
 impl Index {
@@ -28,34 +28,29 @@ impl Index {
     }
 
     // Lists every place.
-    fn list(&mut self, literals: &[i16], ends: &[usize])
-        requires ended { Ends literals.now 0 ends.now }
-        requires few { length literals.now ≤ 9216 }
-        ensures listed { Listed literals.now ends.now self.new.lasts.items self.new.places.items }
+    fn list(&mut self, row: Row)
+        ensures listed { Listed row.entry.literals.now row.entry.ends.now self.new.lasts.items self.new.places.items }
     {
-        list(literals, ends, &mut self.lasts, &mut self.places);
+        list(row, &mut self.lasts, &mut self.places);
     }
 
     // The clauses with their lists.
-    fn lend<'a>(&'a self, literals: &'a [i16], ends: &'a [usize]) -> Clauses<'a>
-        requires listed { Listed literals.now ends.now self.now.lasts.items self.now.places.items }
-        ensures has_the_clauses { clauses_of result ≡ clauses_from literals.now 0 ends.now }
+    fn lend<'a>(&'a self, row: Row<'a>) -> Clauses<'a>
+        requires listed { Listed row.literals.now row.ends.now self.now.lasts.items self.now.places.items }
+        ensures has_the_clauses { clauses_of result ≡ clauses_in row.entry }
     {
         Clauses {
-            literals,
-            ends,
+            row,
             lasts: &self.lasts,
             places: &self.places,
         }
     }
 
     // Lists every place of every clause of a formula, and lends the lists: the clauses as closure reads them.
-    pub fn fill<'a>(&'a mut self, literals: &'a [i16], ends: &'a [usize]) -> Clauses<'a>
-        requires ended { Ends literals.now 0 ends.now }
-        requires few { length literals.now ≤ 9216 }
-        ensures has_the_clauses { clauses_of result ≡ clauses_from literals.now 0 ends.now }
+    pub fn fill<'a>(&'a mut self, row: Row<'a>) -> Clauses<'a>
+        ensures has_the_clauses { clauses_of result ≡ clauses_in row.entry }
     {
-        self.list(literals, ends);
-        self.lend(literals, ends)
+        self.list(row);
+        self.lend(row)
     }
 }

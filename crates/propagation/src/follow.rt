@@ -9,6 +9,7 @@ ghost use Rattle.propagation.specs.Trails.{Grown};
 ghost use Rattle.propagation.specs.Clauses.{clauses_of};
 ghost use Rattle.propagation.specs.Following.{Pending, Closes};
 
+use crate::assignment::Assignment;
 use crate::clauses::Clauses;
 use crate::conflict::Conflict;
 use crate::literal::negated_key_of;
@@ -37,7 +38,7 @@ fn visit(
     let mut below = clauses.lasts[negated_key_of(trail.get(front))] as usize;
     while below > 0 {
         let place = clauses.places[below - 1];
-        press(clauses.literals, values, trail, place)?;
+        press(clauses.row.literals, values, trail, place)?;
         below = place.before as usize;
     }
     Ok(())
@@ -68,4 +69,18 @@ pub fn follow(
         front += 1;
     }
     Ok(())
+}
+
+impl Assignment<'_> {
+    // The same of an assignment.
+    pub fn follow(&mut self, clauses: Clauses, from: usize) -> Result<(), Conflict>
+        requires inside { from ≤ self.old.trail.len }
+        requires pending { Pending (clauses_of clauses) self.old.values.now (drop from (held self.old.trail)) }
+        ensures closes { Closes (clauses_of clauses.entry) self.old.values.now self.new.values.now (is_ok result) }
+        ensures reached { Reaches (clauses_of clauses.entry) self.old.values.now self.new.values.now }
+        ensures broken { OnErr result (violated self.new.values.now (clauses_of clauses.entry) ≡ true) }
+        ensures grown { Grown self.old.values.now self.new.values.now (held self.old.trail) (held self.new.trail) }
+    {
+        follow(clauses, self.values, &mut self.trail, from)
+    }
 }

@@ -2,6 +2,7 @@
 // true, and closure, which looks only at clauses in which a literal has just become false.
 #![tactic(auto)]
 
+mod assignment;
 mod clauses;
 pub mod close;
 mod conflict;
@@ -12,13 +13,16 @@ mod list;
 pub mod literal;
 mod occurrence;
 mod press;
+mod row;
 mod scan;
 mod stack;
 pub mod trail;
 
+pub use assignment::Assignment;
 pub use clauses::Clauses;
 pub use conflict::Conflict;
 pub use index::Index;
 pub use occurrence::Occurrence;
+pub use row::Row;
 pub use scan::start_of;
 pub use stack::Stack;

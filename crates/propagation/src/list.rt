@@ -1,10 +1,10 @@
 // Listing the places of a row by clause and by literal, before a search: the latest place of a literal stands at the head of its list.
 ghost use Rattle.std.specs.Prelude.{◌≡◌, ℕ, ◌+◌, ◌<◌, ◌≤◌, length, get_or, slice_index, slice_index_or, slice_set};
-ghost use Rattle.propagation.specs.Scanning.{Ends};
 ghost use Rattle.propagation.specs.Occurrences.{nowhere, literal_at, first_other, second_other, Headed, Linked, Paired, Listed};
 
 use crate::literal::key_of;
 use crate::occurrence::Occurrence;
+use crate::row::Row;
 
 // Puts a place at the head of a literal's list, and answers what stood there.
 fn put(lasts: &mut [u16], k: usize, p: u16) -> u16
@@ -36,7 +36,7 @@ fn second_other(from: usize, p: usize) -> usize
     if p <= from + 1 { from + 2 } else { from + 1 }
 }
 
-// The literal at a place of a clause; past its end one that is false in every setting.
+// The literal at a place of a clause; past its end one that is false in every setting, and no option, as in `Occurrence`.
 fn literal_at(literals: &[i16], to: usize, q: usize) -> i16
     requires inside { to ≤ length literals.now }
     ensures is_the_literal_there { result ≡ literal_at literals.now to q }
@@ -81,17 +81,15 @@ fn list_clause(
 }
 
 // Every place of every clause.
-pub fn list(literals: &[i16], ends: &[usize], lasts: &mut [u16], places: &mut [Occurrence])
-    requires ended { Ends literals.now 0 ends.now }
-    requires few { length literals.now ≤ 9216 }
-    requires space { length literals.now ≤ length places.old }
-    ensures listed { Listed literals.now ends.now lasts.new places.new }
+pub fn list(row: Row, lasts: &mut [u16], places: &mut [Occurrence])
+    requires space { length row.literals.now ≤ length places.old }
+    ensures listed { Listed row.entry.literals.now row.entry.ends.now lasts.new places.new }
 {
     // No literal stands anywhere yet.
     lasts.fill(0);
     let mut from = 0;
-    for &to in ends {
-        list_clause(literals, lasts, places, from, to);
+    for &to in row.ends {
+        list_clause(row.literals, lasts, places, from, to);
         from = to;
     }
 }

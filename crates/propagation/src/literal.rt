@@ -1,5 +1,5 @@
 // A literal under a setting: where its variable stands, whether it is open or what it is, and what it makes of its clause.
-ghost use Rattle.std.specs.Prelude.{◌≡◌, ◌≤◌};
+ghost use Rattle.std.specs.Prelude.{◌≡◌, ◌+◌, ◌*◌, ◌≤◌, cond};
 ghost use Rattle.solving.specs.Literals.{place};
 ghost use Rattle.solving.specs.Settings.{at, worth, value, bit_of};
 ghost use Rattle.solving.specs.States.{joined};
@@ -15,32 +15,33 @@ pub fn place_of(literal: i16) -> usize
     (literal.unsigned_abs() as usize).saturating_sub(1)
 }
 
-// The number of a literal: each has its own.
+// The number of the literal that asks the variable at a place for a bit: each has its own.
+fn number_of(place: usize, bit: bool) -> usize
+    requires is_small { place ≤ 32768 }
+    ensures is_its_number { result ≡ place * 2 + cond bit 1 0 }
+{
+    place * 2 + usize::from(bit)
+}
+
+// The number of a literal.
 pub(crate) fn key_of(literal: i16) -> usize
     ensures is_the_literals_number { result ≡ key literal }
 {
-    let j = place_of(literal);
-    if literal >= 0 { j * 2 + 1 } else { j * 2 }
+    number_of(place_of(literal), literal >= 0)
 }
 
 // The number of its negation.
 pub(crate) fn negated_key_of(literal: i16) -> usize
     ensures is_the_negations_number { result ≡ against literal }
 {
-    let j = place_of(literal);
-    if literal >= 0 { j * 2 } else { j * 2 + 1 }
+    number_of(place_of(literal), literal < 0)
 }
 
 // What a place holds; past the end 0.
 fn bit_at(values: &[Option<bool>], j: usize) -> Option<bool>
     ensures is_what_stands_there { result ≡ at values.now j }
 {
-    // By a test and an index: with `get` and `unwrap_or` the processor foresees fewer branches of the innermost loop.
-    if j < values.len() {
-        values[j]
-    } else {
-        Some(false)
-    }
+    values.get(j).copied().unwrap_or(Some(false))
 }
 
 fn worth_of(have: Option<bool>, want: bool) -> Option<bool>

@@ -26,17 +26,6 @@ fn state_of(clause: &[i16], values: &[Option<bool>]) -> State
     state
 }
 
-// What these two literals come to as a clause.
-fn pair_state(values: &[Option<bool>], first: i16, second: i16) -> State
-    ensures is_the_pairs_state { result ≡ state_of values.now (first ∷ second ∷ []) }
-{
-    let state = join(value_of(values, first), first, State::Broken);
-    if let State::Other = state {
-        return State::Other;
-    }
-    join(value_of(values, second), second, state)
-}
-
 // What the clause of a place comes to once the literal there is false: a short clause by the two literals beside it.
 fn state_beside(literals: &[i16], values: &[Option<bool>], place: Occurrence) -> State
     requires inside { place.to ≤ length literals.now }
@@ -48,7 +37,7 @@ fn state_beside(literals: &[i16], values: &[Option<bool>], place: Occurrence) ->
     if to > from + 3 {
         return state_of(&literals[from..to], values);
     }
-    pair_state(values, place.first, place.second)
+    state_of(&[place.first, place.second], values)
 }
 
 // Looks at the clause of a place, and makes its lone literal true if it has one.

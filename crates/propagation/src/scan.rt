@@ -5,17 +5,9 @@ ghost use Rattle.propagation.specs.Occurrences.{start_of};
 ghost use Rattle.propagation.specs.Clauses.{clauses_of};
 
 use crate::clauses::Clauses;
+use crate::conflict::Violated;
 use crate::literal::{join, value_of};
 use solving::State;
-
-// The first clause that is false throughout or unit, by its number.
-#[derive(Clone, Copy)]
-pub enum Pressing {
-    // Every place of this clause is false.
-    Broken(usize),
-    // In this clause the literal is open, and every other place is false.
-    Unit(usize, i16),
-}
 
 // Where a clause begins: where the one before it ends.
 pub fn start_of(ends: &[usize], c: usize) -> usize
@@ -25,16 +17,21 @@ pub fn start_of(ends: &[usize], c: usize) -> usize
     if c > 0 { ends[c - 1] } else { 0 }
 }
 
-// That clause, from one on; none where every clause from there on is at rest.
-pub fn scan(clauses: Clauses, values: &[Option<bool>], first: usize) -> Option<Pressing>
-    requires inside { first ≤ length clauses.ends.now }
+// The first clause from one on that is false throughout or unit: a violated one, or by its number a unit one and its open literal;
+// none where every clause from there on is at rest.
+pub(crate) fn scan(
+    clauses: Clauses,
+    values: &[Option<bool>],
+    first: usize,
+) -> Result<Option<(usize, i16)>, Violated>
+    requires inside { first ≤ length clauses.row.ends.now }
     ensures is_the_first_such_clause { result ≡ foremost values.now first (drop first (clauses_of clauses.entry)) }
 {
-    let literals = clauses.literals;
-    let ends = clauses.ends;
+    let literals = clauses.row.literals;
+    let ends = clauses.row.ends;
     let mut from = start_of(ends, first);
     'scan: {
-        // By number: the answer names a clause by it.
+        // Nested, and left by a label: a rule of the project. By number: the answer names a clause by it.
         for c in first..ends.len() {
             let end = ends[c];
             let clause = &literals[from..end];
@@ -44,11 +41,11 @@ pub fn scan(clauses: Clauses, values: &[Option<bool>], first: usize) -> Option<P
             }
             match state {
                 State::Other => {}
-                State::Broken => break 'scan Some(Pressing::Broken(c)),
-                State::Lone(literal) => break 'scan Some(Pressing::Unit(c, literal)),
+                State::Broken => break 'scan Err(Violated { clause: c }),
+                State::Lone(literal) => break 'scan Ok(Some((c, literal))),
             }
             from = end;
         }
-        None
+        Ok(None)
     }
 }

@@ -1,4 +1,4 @@
-// One stack for entries of any kind, over a slice that the caller lends. It says when it is full.
+// One stack for entries of any kind, over a slice that the caller lends, a rule of the project. It says when it is full.
 // Solvers keep on it the literals made true, and their decisions.
 ghost use Rattle.std.specs.Prelude.{◌≤◌, length};
 

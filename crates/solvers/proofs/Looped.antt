@@ -15,10 +15,10 @@ use Rattle.solving.proofs.Places.{open_falls, open_inside}
 use Rattle.solving.proofs.Costs.{lowest_law}
 use Rattle.solvers.proofs.Resumed.{turns}
 use Rattle.solving.proofs.Closures.{rests}
-use Rattle.propagation.proofs.Trailing.{unset, grown_none, grown_more}
+use Rattle.propagation.proofs.Trailing.{unset, grown_none, grown_more, open_unmade, unmade_length}
 use Rattle.propagation.proofs.Followed.{pending_made, pending_as}
 use Rattle.std.proofs.lemmas.List.{drop_at}
-use Rattle.solvers.proofs.Trailing.{frames_grown, frames_unwound, rising_more, rising_last, rising_push, open_unmade, unmade_length}
+use Rattle.solvers.proofs.Trailing.{frames_grown, frames_unwound, rising_more, rising_last, rising_push}
 
 map_last : (f : Decision → Frame) (cs : List Decision) (c : Decision) → map f (cs ++ (c ∷ [])) ≡ map f cs ++ (f c ∷ [])
 map_last f [] c = refl
@@ -137,10 +137,6 @@ module _ (cs : List (List ℤ)) (budget : ℕ) (start : Setting) where
       let lt : length (take c.at t) ≡ n = length-take c.at t ∙ (omega (arith, r.1, en)) in
       pending_as cs (made base l) (made base l) (l ∷ []) (drop n (take c.at t ++ (l ∷ []))) refl (sym (drop_at (take c.at t) (l ∷ []) n lt)) (pending_made cs base l ks.1 ks.2 (ap (at base) pl ∙ os.1))
 
-  -- the ways out
-  pub loop_none : (a b : Setting) (t : List ℤ) (s : ℕ) → Kept cs budget start a b t [] s → violated (closure cs a) cs ≡ true → backtracking lowest cs budget start ≡ none s
-  loop_none a b t s k v = sym k.same ∙ (turns lowest lowest_law.0 cs budget [] a s).none v refl
-
   pub loop_tired : (a b : Setting) (t : List ℤ) (ch gs : List Decision) (c : Decision) (s : ℕ) → Kept cs budget start a b t ch s → violated (closure cs a) cs ≡ true → ch ≡ gs ++ (c ∷ []) → budget ≤ s → backtracking lowest cs budget start ≡ undecided s
   loop_tired a b t ch gs c s k v ec h = sym k.same ∙ (turns lowest lowest_law.0 cs budget (frames_of b t ch) a s).tired (frames_of b t gs) (frame_at b t c) v (ap (frames_of b t) ec ∙ map_last (frame_at b t) gs c) h
 
@@ -153,21 +149,19 @@ module _ (cs : List (List ℤ)) (budget : ℕ) (start : Setting) where
   pub loop_empty : (a b : Setting) (t : List ℤ) (ch : List Decision) (s : ℕ) → Kept cs budget start a b t ch s → ch ≡ [] → violated (closure cs a) cs ≡ true → backtracking lowest cs budget start ≡ none s
   loop_empty a b t ch s k e v = sym k.same ∙ (turns lowest lowest_law.0 cs budget (frames_of b t ch) a s).none v (ap (frames_of b t) e)
 
-  pub turn_ready : (a b : Setting) (t : List ℤ) (ch gs : List Decision) (c : Decision) (s : ℕ) → Kept cs budget start a b t ch s → ch ≡ gs ++ (c ∷ []) → (c.at < length t) × (c.var < length b)
+  -- what a turn and a choice find open
+  pub turn_ready : (a b : Setting) (t : List ℤ) (ch gs : List Decision) (c : Decision) (s : ℕ) → Kept cs budget start a b t ch s → ch ≡ gs ++ (c ∷ []) → (c.at < length t) × (at (unmade_all b (drop c.at t)) c.var ≡ None)
   turn_ready a b t ch gs c s k ec =
       let r = rising_last 0 (length t) gs c (subst (Rising 0 (length t)) ec k.rising) in
       let fs : frames_of b t ch ≡ frames_of b t gs ++ (frame_at b t c ∷ []) = ap (frames_of b t) ec ∙ map_last (frame_at b t) gs c in
       let os = open_last (frames_of b t gs) (frame_at b t c) (subst OpenFrames fs k.opened) in
-      let i = open_inside (unmade_all b (drop c.at t)) c.var os.1 in
-      (r.1, omega (arith, i, unmade_length b (drop c.at t)))
+      (r.1, os.1)
 
-  pub decide_ready : (a b : Setting) (t : List ℤ) (ch : List Decision) (s j : ℕ) → Kept cs budget start a b t ch s → lowest_open b ≡ Some j → (j < length b) × (length t < length start) × (length ch < length start)
+  pub decide_ready : (a b : Setting) (t : List ℤ) (ch : List Decision) (s j : ℕ) → Kept cs budget start a b t ch s → lowest_open b ≡ Some j → (at b j ≡ None) × (length ch < length start)
   decide_ready a b t ch s j k lo =
       let o : at b j ≡ None = lowest_law.0.opens b _ (choice_of b j lo) in
-      let i = open_inside b j o in
-      let p = Rattle.solving.proofs.Places.open_some b (length b) j o i in
-      let q = Rattle.solvers.proofs.Trailing.rising_length 0 (length t) ch k.rising in
-      (i, omega (arith, p, k.room), omega (arith, p, k.room, q))
+      let p = Rattle.solving.proofs.Places.open_some b (length b) j o (open_inside b j o) in
+      (o, omega (arith, p, k.room, Rattle.solvers.proofs.Trailing.rising_length 0 (length t) ch k.rising))
 
   pub kept_as : (a b : Setting) (t u : List ℤ) (ch gs : List Decision) (s r : ℕ) → b ≡ a → u ≡ t → gs ≡ ch → r ≡ s → Kept cs budget start a a t ch s → Kept cs budget start b b u gs r
   kept_as a b t u ch gs s r p q e f k = rw (p, q, e, f) k

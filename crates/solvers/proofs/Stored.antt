@@ -1,8 +1,8 @@
 -- The row of literals: what appending a clause adds to the clauses, the places that they use, and the range of literals.
-use Rattle.std.proofs.Common.{◌≡◌, ℕ, ◌+◌, ◌-◌, ◌<◌, ◌≤◌, Bool, true, false, cond, ◌&&◌, leb, List, [], ◌∷◌, ◌++◌, length, get_or, take, drop, ℤ, pos, None, sym, refl, ap, ◌∙◌, ap₂, add-one, arith, length-drop, drop_of_length-le, length-take, drop-cons, eq-eqb, eqb-true, le-leb, leb-true}
+use Rattle.std.proofs.Common.{◌≡◌, ℕ, ◌+◌, ◌-◌, ◌≤◌, Bool, true, false, cond, ◌&&◌, leb, List, [], ◌∷◌, ◌++◌, length, take, drop, ℤ, None, sym, refl, ap, ◌∙◌, ap₂, arith, length-drop, length-take, eq-eqb, eqb-true, le-leb, leb-true}
 use mathlib.Core.Bool.{false≢true}
 use Rattle.std.proofs.lemmas.List.{take_all, drop_at, drop-append-le, take-append-le}
-use Rattle.solving.specs.Literals.{in_range, all_in_range, places}
+use Rattle.solving.specs.Literals.{places}
 use Rattle.solving.specs.Models.{Model, begun, startable}
 use Rattle.propagation.specs.Scanning.{clauses_from, Ends, ends_well}
 use Rattle.propagation.proofs.Scanned.{ends_le}
@@ -48,19 +48,6 @@ places_of row from (e ∷ ends) h =
     let r = places_of row e ends h.1 in
     omega (arith, h.0)
 
--- the test of a clause's literals, from a place on
-pub range_more : (v i : ℕ) (c : List ℤ) → i < length c → all_in_range v (drop i c) ≡ (in_range v (get_or c i (pos 0)) && all_in_range v (drop (i + 1) c))
-range_more v i c h = rw (add-one, drop-cons c i (pos 0))
-
-pub range_falls : (v i : ℕ) (c : List ℤ) (r : Bool) → i < length c → r ≡ in_range v (get_or c i (pos 0)) → r ≡ false → all_in_range v (drop i c) ≡ all_in_range v c → false ≡ all_in_range v c
-range_falls v i c r h e f g = sym (range_more v i c h ∙ ap (λ b. b && all_in_range v (drop (i + 1) c)) (sym e ∙ f)) ∙ g
-
-pub range_goes : (v i : ℕ) (c : List ℤ) (r : Bool) → i < length c → r ≡ in_range v (get_or c i (pos 0)) → r ≡ true → all_in_range v (drop i c) ≡ all_in_range v c → all_in_range v (drop (i + 1) c) ≡ all_in_range v c
-range_goes v i c r h e f g = sym (range_more v i c h ∙ ap (λ b. b && all_in_range v (drop (i + 1) c)) (sym e ∙ f)) ∙ g
-
-pub range_ends : (v i : ℕ) (c : List ℤ) → length c ≤ i → all_in_range v (drop i c) ≡ all_in_range v c → true ≡ all_in_range v c
-range_ends v i c h g = sym (ap (all_in_range v) (drop_of_length-le c h)) ∙ g
-
 -- a store without clauses, and the places of one with them
 pub clauses_none : (row : List ℤ) (ends : List ℕ) → ends ≡ [] → clauses_from row 0 ends ≡ []
 unfolding clauses_from
@@ -77,10 +64,6 @@ if_true b x y e = sym (ap (λ z. cond z x y) e)
 
 pub if_false : {A : Type 0} (b : Bool) (x y : A) → b ≡ false → y ≡ cond b x y
 if_false b x y e = sym (ap (λ z. cond z x y) e)
-
--- what a lawful size says
-pub start_small : (v k : ℕ) → startable v k ≡ true → v ≤ 560
-start_small v k e = leb-true v 560 (and_right (leb k v) (leb v 560) (and_right (leb 1 k && leb k 32) (leb k v && leb v 560) e))
 
 pub start_leads : (v k : ℕ) → startable v k ≡ true → k ≤ v
 start_leads v k e = leb-true k v (and_left (leb k v) (leb v 560) (and_right (leb 1 k && leb k 32) (leb k v && leb v 560) e))

@@ -1,11 +1,10 @@
 -- The trail: what growing and unwinding it leaves of the frames of earlier decisions.
-use Rattle.std.proofs.Common.{◌≡◌, ℕ, zero, suc, ◌+◌, ◌<◌, ◌≤◌, false, List, [], ◌∷◌, ◌++◌, length, take, drop, set, ℤ, None, sym, refl, ap, ◌∙◌, ap₂, arith, length-set, take-append-drop, length-take}
-use Rattle.std.proofs.lemmas.List.{drop-append-le, take-append-le}
+use Rattle.std.proofs.Common.{◌≡◌, ℕ, suc, ◌+◌, ◌<◌, ◌≤◌, false, List, [], ◌∷◌, ◌++◌, length, take, drop, ℤ, sym, refl, ap, ◌∙◌, ap₂, arith, take-append-drop, length-take}
+use Rattle.std.proofs.lemmas.List.{drop-append-le}
 use Rattle.solvers.specs.declared.decision.Decision.{Decision}
-use Rattle.solving.specs.Settings.{Setting, open_in}
-use Rattle.solving.specs.Literals.{place}
+use Rattle.solving.specs.Settings.{Setting}
 use Rattle.solvers.specs.Resuming.{Frame}
-use Rattle.propagation.specs.Trails.{unmade, unmade_all}
+use Rattle.propagation.specs.Trails.{unmade_all}
 use Rattle.solvers.specs.Trails.{frame_at, frames_of, Rising}
 use Rattle.propagation.proofs.Trailing.{unmade_append}
 
@@ -43,25 +42,3 @@ pub frames_unwound : (b : Setting) (t : List ℤ) (to low : ℕ) (cs : List Deci
 frames_unwound b t to low cs h r =
     let l : length (take to t) ≡ to = length-take to t ∙ (omega arith) in
     sym (frames_grown b (take to t) (drop to t) low cs (rw l r)) ∙ ap (λ (x : List ℤ). frames_of b x cs) (take-append-drop to t)
-
--- opening one variable opens at most one
-open_unset : (a : Setting) (k j : ℕ) → open_in k (set a j None) ≤ suc (open_in k a)
-open_unset a zero j = omega arith
-open_unset [] (suc k) j = omega arith
-open_unset (x ∷ a) (suc k) zero = omega arith
-open_unset (x ∷ a) (suc k) (suc j) = let h = open_unset a k j in omega arith
-
-pub unmade_length : (a : Setting) (t : List ℤ) → length (unmade_all a t) ≡ length a
-unmade_length a [] = refl
-unmade_length a (l ∷ t) = length-set (unmade_all a t) (place l) None ∙ unmade_length a t
-
-pub open_unmade : (a : Setting) (k : ℕ) (t : List ℤ) → open_in k (unmade_all a t) ≤ length t + open_in k a
-open_unmade a k [] = omega arith
-open_unmade a k (l ∷ t) = let h = open_unmade a k t in let g = open_unset (unmade_all a t) k (place l) in omega arith
-
--- one literal off the trail
-pub unwind_values : (v : Setting) (t s : List ℤ) (l : ℤ) (to : ℕ) → t ≡ s ++ (l ∷ []) → to ≤ length s → unmade_all (unmade v l) (drop to s) ≡ unmade_all v (drop to t)
-unwind_values v t s l to e h = sym (ap (λ (x : List ℤ). unmade_all v (drop to x)) e ∙ ap (unmade_all v) (drop-append-le to s (l ∷ []) h) ∙ unmade_append v (drop to s) (l ∷ []))
-
-pub unwind_trail : (t s : List ℤ) (l : ℤ) (to : ℕ) → t ≡ s ++ (l ∷ []) → to ≤ length s → take to s ≡ take to t
-unwind_trail t s l to e h = sym (ap (take to) e ∙ take-append-le to s (l ∷ []) h)

@@ -1,15 +1,10 @@
 -- The answer of the definitions that a verdict stands for, with the setting that is left.
-use Rattle.std.specs.Prelude.{ℕ, Bool, true, false}
+use Rattle.std.specs.Prelude.{ℕ}
 use Rattle.solving.specs.Settings.{Setting}
 use Rattle.solving.specs.Trials.{Answer, found, none, undecided}
 use Rattle.solving.specs.declared.verdict.Verdict.{Verdict}
 use Rattle.solving.specs.declared.verdict.Verdict.TheVariants.{Found, None as Unsatisfiable, Undecided}
 use Rattle.solving.specs.declared.verdict.Solved.{Solved}
-
-abbrev pub is_found : Verdict → Bool
-is_found Found = true
-is_found Unsatisfiable = false
-is_found Undecided = false
 
 abbrev pub meant : Verdict → ℕ → Setting → Answer
 meant Found s b = found b s

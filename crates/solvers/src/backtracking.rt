@@ -9,41 +9,39 @@ ghost use Rattle.solvers.specs.Stores.{model_of};
 
 use crate::backtrack::backtrack;
 use crate::decision::Decision;
-use crate::outcome::is_found;
 use crate::store::Store;
-use propagation::{Index, Stack};
-use solving::{AppendFault, Solved, Solver, StartFault, ValueFault};
+use propagation::{Assignment, Index, Stack};
+use solving::{AppendFault, Solved, Solver, StartFault, ValueFault, Verdict};
 use std::alloc::{AllocError, Global};
 use ways::Answering;
 
 mod clauses;
 
-// Both stacks over what is lent, from every variable open. What goes round a search is three calls here as in counting; one function
-// for both would need a closure that takes the lists and the values that it lends.
+// Setting, trail and decisions over what is lent, from every variable open. No method of the solver: it lends slices of its vectors,
+// since nothing is known of a vector's length after a stack over it.
 fn run(
     store: &mut Store,
     index: &mut Index,
+    setting: &mut [Option<bool>],
     places: &mut [i16],
     records: &mut [Decision],
     budget: u64,
 ) -> Solved
+    requires room_for_variables { 560 ≤ length setting.old }
     requires room_for_literals { 560 ≤ length places.old }
     requires room_for_decisions { 560 ≤ length records.old }
     ensures answers_as_defined { result ≡ told (backtracked (model_of store.old) budget) }
     ensures leaves_as_defined { model_of store.new ≡ after (model_of store.old) (backtracked (model_of store.old) budget) }
 {
-    store.reopen();
-    let clauses = index.fill(&store.literals, &store.ends);
-    let mut trail = Stack::new(places);
+    store.forget();
+    let clauses = index.fill(store.row());
+    let mut assignment = Assignment::new(&mut setting[..store.variables], places);
+    assignment.clear();
     let mut decisions = Stack::new(records);
-    let solved = backtrack(
-        clauses,
-        &mut store.values,
-        &mut trail,
-        &mut decisions,
-        budget,
-    );
-    store.read = is_found(solved.verdict);
+    let solved = backtrack(clauses, &mut assignment, &mut decisions, budget);
+    if let Verdict::Found = solved.verdict {
+        store.keep(assignment.values());
+    }
     solved
 }
 
@@ -51,8 +49,10 @@ fn run(
 pub struct Backtracking {
     store: Store,
     index: Index,
+    setting: Vec<Option<bool>>,
     trail: Vec<i16>,
     decisions: Vec<Decision>,
+    ghost room_for_variables: { 560 ≤ vec_len setting },
     ghost room_for_literals: { 560 ≤ vec_len trail },
     ghost room_for_decisions: { 560 ≤ vec_len decisions },
 }
@@ -64,11 +64,13 @@ impl Backtracking {
     {
         let store = Store::new(heap)?;
         let index = Index::new(heap)?;
+        let setting = vec![in heap; None; 560]?;
         let trail = vec![in heap; 0i16; 560]?;
         let decisions = vec![in heap; Decision { at: 0, var: 0 }; 560]?;
         Ok(Backtracking {
             store,
             index,
+            setting,
             trail,
             decisions,
         })
@@ -94,6 +96,7 @@ impl Solver for Backtracking {
         run(
             &mut self.store,
             &mut self.index,
+            &mut self.setting,
             &mut self.trail,
             &mut self.decisions,
             budget,

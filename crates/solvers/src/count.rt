@@ -7,45 +7,35 @@ ghost use Rattle.solvers.specs.Outcomes.{meant, answered};
 
 use crate::leading::Leading;
 use crate::turn::lowest_open;
-use propagation::close::close;
-use propagation::{Clauses, Conflict, Stack};
+use propagation::{Assignment, Clauses, Conflict};
 use solving::{Solved, Verdict};
 
+// What every call asks and promises of the variables stands at `Leading`.
 // One setting: none where its closure is violated, found where it sets every variable, else undecided.
 fn try_setting(
     clauses: Clauses,
-    values: &mut [Option<bool>],
-    places: &mut [i16],
+    assignment: &mut Assignment,
     leading: Leading,
     number: u64,
 ) -> Verdict
-    requires small { length values.old ≤ 560 }
-    requires inside { leading.count ≤ length values.old }
-    requires space { length values.old ≤ length places.old }
-    ensures is_what_it_comes_to { (s : ℕ) → tried (clauses_of clauses.entry) (length values.old) (bits_of leading.count number) s ≡ meant result s values.new }
+    requires inside { leading.count ≤ length assignment.old.values.now }
+    ensures is_what_it_comes_to { (s : ℕ) → tried (clauses_of clauses.entry) (length assignment.old.values.now) (bits_of leading.count number) s ≡ meant result s assignment.new.values.now }
+    ensures keeps_the_variables { length assignment.new.values.now ≡ length assignment.old.values.now }
 {
-    leading.enter(values, number);
-    let mut trail = Stack::new(places);
-    match close(clauses, values, &mut trail) {
+    leading.enter(assignment, number);
+    match assignment.close(clauses) {
         Err(Conflict) => Verdict::None,
-        Ok(()) => match lowest_open(values) {
+        Ok(()) => match lowest_open(assignment.values()) {
             None => Verdict::Found,
             Some(_) => Verdict::Undecided,
         },
     }
 }
 
-pub fn count(
-    clauses: Clauses,
-    values: &mut [Option<bool>],
-    places: &mut [i16],
-    leading: Leading,
-    budget: u64,
-) -> Solved
-    requires small { length values.old ≤ 560 }
-    requires inside { leading.count ≤ length values.old }
-    requires space { length values.old ≤ length places.old }
-    ensures answers_as_defined { counting (clauses_of clauses.entry) (length values.old) leading.count budget ≡ answered result values.new }
+pub fn count(clauses: Clauses, assignment: &mut Assignment, leading: Leading, budget: u64) -> Solved
+    requires inside { leading.count ≤ length assignment.old.values.now }
+    ensures answers_as_defined { counting (clauses_of clauses.entry) (length assignment.old.values.now) leading.count budget ≡ answered result assignment.new.values.now }
+    ensures keeps_the_variables { length assignment.new.values.now ≡ length assignment.old.values.now }
 {
     let all = leading.settings();
     for number in 0..all {
@@ -55,7 +45,7 @@ pub fn count(
                 steps: number,
             };
         }
-        match try_setting(clauses, values, places, leading, number) {
+        match try_setting(clauses, assignment, leading, number) {
             Verdict::None => {}
             verdict => {
                 return Solved {

@@ -8,32 +8,46 @@ ghost use Rattle.solving.specs.Counting.{counted};
 ghost use Rattle.solvers.specs.Stores.{model_of};
 
 use crate::count::count;
-use crate::outcome::is_found;
 use crate::store::Store;
-use propagation::Index;
-use solving::{AppendFault, Solved, Solver, StartFault, ValueFault};
+use propagation::{Assignment, Index};
+use solving::{AppendFault, Solved, Solver, StartFault, ValueFault, Verdict};
 use std::alloc::{AllocError, Global};
 use ways::Answering;
 
-// The trail over what is lent, from every variable open.
-fn run(store: &mut Store, index: &mut Index, places: &mut [i16], budget: u64) -> Solved
+// Setting and trail over what is lent. No method of the solver: it lends slices of its vectors, since nothing is known of a vector's
+// length after a stack over it.
+fn run(
+    store: &mut Store,
+    index: &mut Index,
+    setting: &mut [Option<bool>],
+    places: &mut [i16],
+    budget: u64,
+) -> Solved
+    requires room_for_variables { 560 ≤ length setting.old }
     requires room_for_literals { 560 ≤ length places.old }
     ensures answers_as_defined { result ≡ told (counted (model_of store.old) budget) }
     ensures leaves_as_defined { model_of store.new ≡ after (model_of store.old) (counted (model_of store.old) budget) }
 {
-    store.reopen();
+    store.forget();
     let leading = store.leading();
-    let clauses = index.fill(&store.literals, &store.ends);
-    let solved = count(clauses, &mut store.values, places, leading, budget);
-    store.read = is_found(solved.verdict);
+    let clauses = index.fill(store.row());
+    let mut assignment = Assignment::new(&mut setting[..store.variables], places);
+    let solved = count(clauses, &mut assignment, leading, budget);
+    if let Verdict::Found = solved.verdict {
+        store.keep(assignment.values());
+    }
     solved
 }
 
+// Its memory is that of backtracking but for the decisions. A type of both parts would only be reached through: `run` is lent each by
+// itself.
 #[derive(Drop)]
 pub struct Counting {
     store: Store,
     index: Index,
+    setting: Vec<Option<bool>>,
     trail: Vec<i16>,
+    ghost room_for_variables: { 560 ≤ vec_len setting },
     ghost room_for_literals: { 560 ≤ vec_len trail },
 }
 
@@ -44,10 +58,12 @@ impl Counting {
     {
         let store = Store::new(heap)?;
         let index = Index::new(heap)?;
+        let setting = vec![in heap; None; 560]?;
         let trail = vec![in heap; 0i16; 560]?;
         Ok(Counting {
             store,
             index,
+            setting,
             trail,
         })
     }
@@ -69,7 +85,13 @@ impl Solver for Counting {
         ensures answers_as_defined { result ≡ told (counted (model_of self.old.store) budget) }
         ensures leaves_as_defined { model_of self.new.store ≡ after (model_of self.old.store) (counted (model_of self.old.store) budget) }
     {
-        run(&mut self.store, &mut self.index, &mut self.trail, budget)
+        run(
+            &mut self.store,
+            &mut self.index,
+            &mut self.setting,
+            &mut self.trail,
+            budget,
+        )
     }
 
     fn value(&self, variable: u16) -> Result<bool, ValueFault> {

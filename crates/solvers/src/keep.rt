@@ -1,11 +1,14 @@
-// The calls of a store: start and value as the interface of a solver has them, its leading variables, and opening every variable before a search.
-ghost use Rattle.std.specs.Prelude.{◌≡◌, replicate, is_ok, IfOk, if◌then◌else◌, None, vec_len};
+// The calls of a store: start and value as the interface of a solver has them, its leading variables, its clauses, and the reading that a search leaves.
+ghost use Rattle.std.specs.Prelude.{◌≡◌, length, is_ok, IfOk, if◌then◌else◌, Some, None};
+ghost use Rattle.solving.specs.Settings.{reading_of};
 ghost use Rattle.solving.specs.Models.{fresh, begun, reads, startable};
 ghost use Rattle.solving.specs.Refusals.{started, valued};
+ghost use Rattle.propagation.specs.Clauses.{clauses_in};
 ghost use Rattle.solvers.specs.Stores.{model_of};
 
 use crate::leading::Leading;
 use crate::store::Store;
+use propagation::Row;
 use propagation::literal::bit_of;
 use solving::{StartFault, ValueFault};
 use std::alloc::{AllocError, Global};
@@ -65,14 +68,30 @@ impl Store {
         }
     }
 
-    // Opens every variable, and drops the reading.
-    pub fn reopen(&mut self)
-        ensures opened { self.new.values.items ≡ replicate self.old.variables None }
-        ensures len { vec_len self.new.values ≡ self.old.variables }
+    // Its clauses, for closure.
+    pub fn row(&self) -> Row<'_>
+        ensures has_the_clauses { clauses_in result ≡ (model_of self.now).clauses }
+    {
+        Row {
+            literals: &self.literals,
+            ends: &self.ends,
+        }
+    }
+
+    // Drops the reading.
+    pub fn forget(&mut self)
         ensures state { model_of self.new ≡ reads (model_of self.old) None }
     {
         self.read = false;
+    }
+
+    // Keeps a setting of every variable as the reading.
+    pub fn keep(&mut self, setting: &[Option<bool>])
+        requires whole { length setting.now ≡ self.old.variables }
+        ensures state { model_of self.new ≡ reads (model_of self.old) (Some (reading_of setting.now)) }
+    {
         self.values.clear();
-        let _ = self.values.resize(self.variables, None);
+        let _ = self.values.extend_from_slice(setting);
+        self.read = true;
     }
 }

@@ -10,7 +10,6 @@ mod counting;
 mod decision;
 mod keep;
 mod leading;
-mod outcome;
 mod store;
 mod turn;
 

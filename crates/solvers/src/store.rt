@@ -12,7 +12,8 @@ pub struct Store {
     pub(super) literals: Vec<i16>,
     pub(super) ends: Vec<usize>,
     pub(super) values: Vec<Option<bool>>,
-    // Whether the values are a reading: a flag beside them, since their memory stays reserved where there is none.
+    // Whether the values are a reading. A flag beside them: as an option they would give their memory back where there is none, and
+    // to be empty would be a flag by another name.
     pub(super) read: bool,
     ghost sized: { startable variables leading ≡ true },
     ghost ended: { ends_well (vec_len literals) 0 ends.items ≡ true },

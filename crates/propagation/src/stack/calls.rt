@@ -29,7 +29,8 @@ impl<'a, T: Copy> Stack<'a, T> {
         entries[i]
     }
 
-    // Puts an entry last; false where the stack is full, which it then stays: it says so to whoever fills it.
+    // Puts an entry last; false where the stack is full, which it then stays. A bool and no error: that it says when it is full is a
+    // rule of the project, and who calls it here has room and hands nothing on.
     pub fn push(&mut self, x: T) -> bool
         ensures refuses_where_full { result ≡ nat_lt self.old.len (room self.old) }
         ensures holds_it_last { held self.new ≡ (if result then held self.old ++ (x ∷ []) else held self.old) }
@@ -56,5 +57,14 @@ impl<'a, T: Copy> Stack<'a, T> {
         }
         self.len -= 1;
         Some(self.entries[self.len])
+    }
+
+    // Takes every entry off.
+    pub fn clear(&mut self)
+        ensures is_empty { held self.new ≡ [] }
+        ensures has_no_entry { self.new.len ≡ 0 }
+        ensures keeps_its_room { room self.new ≡ room self.old }
+    {
+        self.len = 0;
     }
 }

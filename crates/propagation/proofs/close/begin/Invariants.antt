@@ -7,14 +7,14 @@ use Rattle.propagation.specs.Clauses.{clauses_of}
 use Rattle.propagation.specs.Following.{Looked}
 use Rattle.propagation.proofs.close.begin.Given as goal
 
-abbrev pub invariant-loop-pressing : goal.invariant-loop-pressing
-invariant-loop-pressing l =
+abbrev pub invariant-loop-c : goal.invariant-loop-c
+invariant-loop-c l =
     Looked (clauses_of l.clauses) l.first l.values (drop l.initial.trail.len (held l.trail))
     × Reaches (clauses_of l.clauses) l.initial.values l.values
     × Grown l.initial.values l.values (held l.initial.trail) (held l.trail)
     × (room l.trail ≡ room l.initial.trail)
     × (l.trail.len + open_in (length l.values) l.values ≤ room l.trail)
-    × (l.first ≤ length l.clauses.ends.now)
+    × (l.first ≤ length l.clauses.row.ends.now)
 
-abbrev pub decreases-loop-pressing : goal.decreases-loop-pressing
-decreases-loop-pressing l = open_in (length l.values) l.values
+abbrev pub decreases-loop-c : goal.decreases-loop-c
+decreases-loop-c l = open_in (length l.values) l.values

@@ -10,7 +10,7 @@ use Rattle.propagation.proofs.follow.visit.Given as goal
 
 abbrev pub invariant-loop-below : goal.invariant-loop-below
 invariant-loop-below l =
-    Visiting (clauses_of l.clauses) l.clauses.literals.now l.clauses.ends.now (against (get_or (held l.initial.trail) l.front (pos 0))) l.below l.values (drop (l.front + 1) (held l.trail))
+    Visiting (clauses_of l.clauses) l.clauses.row.literals.now l.clauses.row.ends.now (against (get_or (held l.initial.trail) l.front (pos 0))) l.below l.values (drop (l.front + 1) (held l.trail))
     × Reaches (clauses_of l.clauses) l.initial.values l.values
     × Grown l.initial.values l.values (held l.initial.trail) (held l.trail)
     × (room l.trail ≡ room l.initial.trail)

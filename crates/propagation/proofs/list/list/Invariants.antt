@@ -4,8 +4,8 @@ use Rattle.propagation.proofs.list.list.Given as goal
 
 abbrev pub invariant-loop-to : goal.invariant-loop-to
 invariant-loop-to l =
-    (l.from ≡ start_of l.ends l.to-index)
-    × Headed l.literals l.lasts l.from
-    × Linked l.literals (length l.initial.lasts) l.places l.from
-    × Paired l.literals l.places l.from
-    × Spanned l.ends l.places l.to-index
+    (l.from ≡ start_of l.row.ends.now l.to-index)
+    × Headed l.row.literals.now l.lasts l.from
+    × Linked l.row.literals.now (length l.initial.lasts) l.places l.from
+    × Paired l.row.literals.now l.places l.from
+    × Spanned l.row.ends.now l.places l.to-index

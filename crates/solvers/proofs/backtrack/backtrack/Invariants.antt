@@ -5,14 +5,13 @@ use Rattle.propagation.specs.Clauses.{clauses_of}
 use Rattle.propagation.specs.Following.{Pending}
 use Rattle.solvers.proofs.backtrack.backtrack.Given as goal
 
-abbrev pub invariant-loop-values : goal.invariant-loop-values
-invariant-loop-values l =
-    Kept (clauses_of l.clauses) l.budget l.initial.values l.values l.values (held l.trail) (held l.decisions) l.steps
-    × (room l.trail ≡ room l.initial.trail)
+abbrev pub invariant-loop-assignment : goal.invariant-loop-assignment
+invariant-loop-assignment l =
+    Kept (clauses_of l.clauses) l.budget l.initial.assignment.values.now l.assignment.values.now l.assignment.values.now (held l.assignment.trail) (held l.decisions) l.steps
     × (room l.decisions ≡ room l.initial.decisions)
     × (l.steps ≤ l.budget)
-    × Pending (clauses_of l.clauses) l.values (drop l.front (held l.trail))
-    × (l.front ≤ l.trail.len)
+    × Pending (clauses_of l.clauses) l.assignment.values.now (drop l.front (held l.assignment.trail))
+    × (l.front ≤ l.assignment.trail.len)
 
-abbrev pub decreases-loop-values : goal.decreases-loop-values
-decreases-loop-values l = l.budget - l.steps
+abbrev pub decreases-loop-assignment : goal.decreases-loop-assignment
+decreases-loop-assignment l = l.budget - l.steps

@@ -5,13 +5,9 @@ use Rattle.solvers.proofs.Stored.{start_leads}
 use Rattle.solvers.proofs.Verdicts.{answers_as}
 use Rattle.solvers.proofs.backtracking.BacktrackingSolver.solve.Goals as goal
 
-pub returns : goal.returns
-returns c =
+pub returns-clause-answers : goal.returns-clause-answers
+returns-clause-answers c =
     let s = c.args.self.now.store in
     let m = model_of s in
     let e = c.run.ensures in
-    record {
-      answers = answers_as m (model_of c.run.new.store) c.args.budget c.run.result (backtracked m c.args.budget) e.answers_as_defined e.leaves_as_defined (backtracking_answers m c.args.budget (start_leads s.variables s.leading s.sized));
-      answers_as_defined = e.answers_as_defined;
-      leaves_as_defined = e.leaves_as_defined;
-    }
+    answers_as m (model_of c.run.new.store) c.args.budget c.run.result (backtracked m c.args.budget) e.answers_as_defined e.leaves_as_defined (backtracking_answers m c.args.budget (start_leads s.variables s.leading s.sized))
