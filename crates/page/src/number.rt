@@ -5,17 +5,16 @@ ghost use Rattle.page.specs.Pages.{putting};
 ghost use Rattle.page.specs.Views.{filled_of};
 
 use crate::buffer::Page;
+use itoa::Buffer;
 
 impl<'a> Page<'a> {
-    // Puts a number behind the text. By hand: `write!` promises its text only where it answers Ok, and a put cannot fail.
+    // Puts a number behind the text.
+    #[tactic(auto, using(std::proofs::lemmas::Fmt::decimal_is_IsNumeral, std::proofs::lemmas::Fmt::first_decimal))]
     pub fn number(&mut self, number: usize)
         ensures puts_its_digits { filled_of self.new ≡ putting (decimal number) (filled_of self.old) }
         ensures the_digits_read_back { (IsNumeral 10 (decimal number)) × (digits_value 10 (decimal number) ≡ number) }
         ensures no_zero_leads { 0 < number → 48 < slice_index (decimal number) 0 }
     {
-        if number >= 10 {
-            self.number(number / 10);
-        }
-        self.byte(b'0' + (number % 10) as u8);
+        self.put(Buffer::new().format(number).as_bytes());
     }
 }

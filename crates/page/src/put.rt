@@ -18,6 +18,7 @@ impl<'a> Page<'a> {
     }
 
     // Puts one byte behind the text.
+    #[tactic(auto, using(crate::proofs::Putting::byte_put, crate::proofs::Putting::byte_cut))]
     pub fn byte(&mut self, byte: u8)
         ensures puts_the_byte { filled_of self.new ≡ putting (byte ∷ []) (filled_of self.old) }
     {
@@ -30,6 +31,7 @@ impl<'a> Page<'a> {
     }
 
     // Puts bytes behind the text.
+    #[tactic(auto, using(crate::proofs::Putting::put_none, crate::proofs::Putting::put_parts, std::proofs::lemmas::List::take_more))]
     pub fn put(&mut self, bytes: &[u8])
         ensures puts_the_bytes { filled_of self.new ≡ putting bytes.now (filled_of self.old) }
     {

@@ -1,6 +1,7 @@
 -- The text of a sheet: its lines, and the bytes that they make. Fields of a line are separated by one space.
 use Rattle.std.specs.Prelude.{ℕ, suc, List, [], ◌∷◌, ◌++◌, length, codes, decimal, count_by}
 use Rattle.card.specs.Netlists.{Netlist}
+use Rattle.reading.specs.Refusals.{refusal_line}
 use Rattle.vectors.specs.Rows.{printed}
 use Rattle.vectors.specs.Vectors.{Cells}
 use Rattle.tester.specs.Characters.{characters}
@@ -60,9 +61,6 @@ sheet_text c marks vectors = ended (sheet_lines c marks vectors)
 abbrev pub sheet_of : Netlist → View → List ℕ
 sheet_of c v = sheet_text c v.marks v.vectors
 
--- the one line of a card that cannot be read: the number of the refusal and its offset
-abbrev pub refusal_line : ℕ → ℕ → List ℕ
-refusal_line number offset = codes "card refused " ++ decimal number ++ codes " at " ++ decimal offset
-
+-- the text of a card that cannot be read is the one line of its refusal
 unfoldable pub refusal_text : ℕ → ℕ → List ℕ
 refusal_text number offset = ended (refusal_line number offset ∷ [])

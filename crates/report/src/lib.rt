@@ -3,6 +3,7 @@
 
 pub mod lines;
 pub mod listing;
+pub mod refusal;
 pub mod sheet;
 pub mod vector;
 pub mod worked;

@@ -4,6 +4,7 @@ ghost use Rattle.page.specs.Pages.{putting};
 ghost use Rattle.page.specs.Views.{filled_of};
 ghost use Rattle.report.specs.Lines.{ended, fault_line, fault_rows, head_line, refusal_text};
 
+use crate::refusal::CardRefusal;
 use history::mark::Mark;
 use job::shown::Counts;
 use page::buffer::Page;
@@ -24,6 +25,7 @@ pub fn head_line(page: &mut Page, faults: usize, counts: Counts)
 }
 
 // The number of a fault and what is said of it.
+#[tactic(auto, using(page::proofs::Putting::put_parts))]
 fn marked(page: &mut Page, number: usize, word: &[u8])
     ensures puts_the_line { filled_of page.new ≡ putting (ended (fault_line number word.now ∷ [])) (filled_of page.old) }
 {
@@ -35,6 +37,7 @@ fn marked(page: &mut Page, number: usize, word: &[u8])
 }
 
 // The line of a fault that is not detected; a detected one has none.
+#[tactic(auto, using(page::proofs::Putting::put_none))]
 pub fn fault_line(page: &mut Page, number: usize, mark: Mark)
     ensures puts_the_line_unless_detected { filled_of page.new ≡ putting (ended (fault_rows number mark)) (filled_of page.old) }
 {
@@ -46,12 +49,14 @@ pub fn fault_line(page: &mut Page, number: usize, mark: Mark)
 }
 
 // The one line of a card that cannot be read.
-pub fn refusal_line(page: &mut Page, number: u8, offset: usize)
-    ensures puts_the_refusal { filled_of page.new ≡ putting (refusal_text number offset) (filled_of page.old) }
+// Not by `write!` of a Display: tried, it promises the text only where it answers Ok, and no contract says that it does so on a page.
+#[tactic(auto, using(page::proofs::Putting::put_parts), unfolding(crate::specs::Lines::refusal_text))]
+pub fn refusal_line(page: &mut Page, refusal: CardRefusal)
+    ensures puts_the_refusal { filled_of page.new ≡ putting (refusal_text refusal.number refusal.offset) (filled_of page.old) }
 {
     page.put(b"card refused ");
-    page.number(number as usize);
+    page.number(refusal.number as usize);
     page.put(b" at ");
-    page.number(offset);
+    page.number(refusal.offset);
     page.byte(b'\n');
 }

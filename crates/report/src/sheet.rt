@@ -1,4 +1,5 @@
-// The whole sheet of a job: on a page, and from the start of a buffer that the caller lends.
+// The whole sheet of a job, and the line of a card that cannot be read: on a page, and from the start of a buffer that the caller lends.
+// A length is answered, since the caller reads its own buffer.
 ghost use Rattle.std.specs.Prelude.{◌≡◌, ◌≤◌, true, ◌++◌, length, drop, is_some, IfSome, nat_le};
 ghost use Rattle.job.specs.Jobs.{card_held, held};
 ghost use Rattle.page.specs.Pages.{putting, written};
@@ -9,6 +10,7 @@ ghost use Rattle.report.specs.Truths.{Tells, TellsTheTruth};
 
 use crate::lines::{head_line, refusal_line};
 use crate::listing::{fault_lines, vector_lines};
+use crate::refusal::CardRefusal;
 use job::job::Job;
 use page::buffer::Page;
 
@@ -40,14 +42,14 @@ pub fn report_into(job: &Job, buffer: &mut [u8]) -> Option<usize>
 }
 
 // The line of a card that cannot be read, in a buffer: its length, or none where the buffer is too short, and the line is then cut off at its end.
-pub fn refusal_into(number: u8, offset: usize, buffer: &mut [u8]) -> Option<usize>
-    ensures answered_exactly_if_the_line_fits { is_some result ≡ nat_le (length (refusal_text number offset)) (length buffer.old) }
-    ensures answers_its_length { IfSome result (λ n. n ≡ length (refusal_text number offset)) }
-    ensures writes_the_line_as_far_as_it_fits { buffer.new ≡ written (refusal_text number offset) buffer.old }
-    ensures leaves_the_bytes_behind_it { is_some result ≡ true → buffer.new ≡ refusal_text number offset ++ drop (length (refusal_text number offset)) buffer.old }
-    ensures the_line_has_at_most_41_bytes { length (refusal_text number offset) ≤ 41 }
+pub fn refusal_into(refusal: CardRefusal, buffer: &mut [u8]) -> Option<usize>
+    ensures answered_exactly_if_the_line_fits { is_some result ≡ nat_le (length (refusal_text refusal.number refusal.offset)) (length buffer.old) }
+    ensures answers_its_length { IfSome result (λ n. n ≡ length (refusal_text refusal.number refusal.offset)) }
+    ensures writes_the_line_as_far_as_it_fits { buffer.new ≡ written (refusal_text refusal.number refusal.offset) buffer.old }
+    ensures leaves_the_bytes_behind_it { is_some result ≡ true → buffer.new ≡ refusal_text refusal.number refusal.offset ++ drop (length (refusal_text refusal.number refusal.offset)) buffer.old }
+    ensures the_line_has_at_most_41_bytes { length (refusal_text refusal.number refusal.offset) ≤ 41 }
 {
     let mut page = Page::new(buffer);
-    refusal_line(&mut page, number, offset);
+    refusal_line(&mut page, refusal);
     page.finish()
 }

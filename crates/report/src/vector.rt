@@ -15,6 +15,7 @@ use vectors::row::character;
 use vectors::vector::Vector;
 
 // One character for each input, from input 0.
+#[tactic(auto, using(page::proofs::Putting::put_none, page::proofs::Putting::put_parts, crate::proofs::Putting::printed_more))]
 fn cells(page: &mut Page, card: &Card, vector: &Vector)
     ensures puts_the_cells { filled_of page.new ≡ putting (printed (netlist_of card.now).inputs (cells_of vector.now)) (filled_of page.old) }
 {
@@ -36,6 +37,7 @@ fn outputs(page: &mut Page, card: &Card, vector: &Vector)
 }
 
 // The line of the vector of this number.
+#[tactic(auto, using(page::proofs::Putting::put_parts))]
 pub fn vector_line(page: &mut Page, card: &Card, number: usize, vector: &Vector)
     ensures puts_the_line { filled_of page.new ≡ putting (ended (vector_rows (netlist_of card.now) number (cells_of vector.now))) (filled_of page.old) }
     ensures a_bit_shown_is_what_every_filling_makes { Truthful (netlist_of card.now) (cells_of vector.now) (characters (netlist_of card.now) (cells_of vector.now)) }

@@ -1,5 +1,5 @@
 -- What is put into the buffer is the text for the card bytes, and it fits.
-use Rattle.std.proofs.Common.{◌≡◌, ℕ, ◌≤◌, ◌⊎◌, List, ◌++◌, length, drop, IfOk, IfErr, Some, None, Ok, Err, Result, sym, ap, ◌∙◌, subst, inr, arith, MatchResult}
+use Rattle.std.proofs.Common.{◌≡◌, ℕ, ◌≤◌, List, ◌++◌, length, drop, IfOk, Some, None, Ok, Err, Result, sym, ap, ◌∙◌, subst, arith, MatchResult}
 use Rattle.card.specs.Netlists.{Netlist}
 use Rattle.reading.specs.Reading.{reading}
 use Rattle.reading.specs.Refusals.{refusal_number, refusal_offset}
@@ -17,7 +17,7 @@ use Rattle.report.specs.Truths.{Tells, TellsTheTruth}
 use Rattle.report.proofs.Lengths.{sheet_fits}
 use Rattle.report.proofs.Telling.{few_faults, few_vectors}
 use Rattle.sheets.specs.Printing.{Prints, fault_for, text_for}
-use Rattle.sheets.specs.Putting.{Put, Puts, Worked}
+use Rattle.sheets.specs.Putting.{Put, Puts}
 use Rattle.sheets.specs.Refusals.{sheet_fault_of}
 use Rattle.sheets.specs.Working.{sheet_view}
 use Rattle.sheets.specs.declared.fault.SheetFault.{SheetFault}
@@ -27,14 +27,8 @@ use Rattle.sheets.proofs.Counted.{sheet_modest}
 
 -- ---- faults are told apart
 
-room_memory : Room ≡ Memory → ⊥
-room_memory e = let z : ◌≡◌ {A = ℕ} 0 1 = cc in omega arith
-
 card_memory : (f : CardFault) → Card f ≡ Memory → ⊥
 card_memory f e = let z : ◌≡◌ {A = ℕ} 0 1 = cc in omega arith
-
-room_card : (f : CardFault) → Room ≡ Card f → ⊥
-room_card f e = let z : ◌≡◌ {A = ℕ} 0 1 = cc in omega arith
 
 card_same : (f g : CardFault) → Card f ≡ Card g → f ≡ g
 card_same f g e = cc
@@ -47,18 +41,6 @@ err_same e f q = cc
 
 ok_same : {T E : Type 0} (s t : T) → ◌≡◌ {A = Result T E} (Ok s) (Ok t) → s ≡ t
 ok_same s t q = cc
-
--- no card's fault is want of room
-no_room : (f : CardFault) → Room ≡ sheet_fault_of f → ⊥
-no_room (card.Unknown at) e = room_card (card.Unknown at) e
-no_room (card.Ended at) e = room_card (card.Ended at) e
-no_room (card.Operand fault) e = room_card (card.Operand fault) e
-no_room (card.LateInput at) e = room_card (card.LateInput at) e
-no_room (card.Limit at) e = room_card (card.Limit at) e
-no_room (card.NamedTwice at) e = room_card (card.NamedTwice at) e
-no_room (card.Incomplete at) e = room_card (card.Incomplete at) e
-no_room (card.Trailing at) e = room_card (card.Trailing at) e
-no_room card.Memory e = room_memory e
 
 -- a card's fault is carried whole
 whole : (g : CardFault) (f : CardFault) → Card g ≡ sheet_fault_of f → f ≡ g
@@ -89,10 +71,6 @@ modest j e = subst NoMoreVectorsThanDetectedFaults (sym e) (sheet_modest (card_h
 abbrev pub Prepares : List ℕ → Result Job SheetFault → Type 0
 Prepares bytes p = MatchResult p (λ j. (reading bytes ≡ Ok (card_held j)) × (held j ≡ sheet_view (card_held j))) (λ e. (e ≡ Memory → ⊥) → (f : CardFault) × (reading bytes ≡ Err f) × (e ≡ sheet_fault_of f))
 
-pub worked_from : (bytes : List ℕ) (p : Result Job SheetFault) → Prepares bytes p → Worked p
-worked_from bytes (Ok j) (_, e) = e
-worked_from bytes (Err e) _ = tt
-
 module _ (bytes before after : List ℕ) where
   of_card : (j : Job) (s : Sheet) → reading bytes ≡ Ok (card_held j) → held j ≡ sheet_view (card_held j) → Put (sheet_of (card_held j) (held j)) before after s → s.fault ≡ None
       → TellsTheTruth (card_held j) (sheet_of (card_held j) (held j)) → Tells (card_held j) (held j) (sheet_of (card_held j) (held j)) → Prints bytes before after s
@@ -112,14 +90,13 @@ module _ (bytes before after : List ℕ) where
         a_bad_card_has_the_line_of_its_first_broken_rule = λ number offset bad. let (e, is, _, _) = agree.refused bytes number offset bad in absurd (ok_err c e (sym reads ∙ is));
       }
 
-  of_bad_card : (f : CardFault) (s : Sheet) → reading bytes ≡ Err f → Put (refusal_text (refusal_number f) (refusal_offset f)) before after s → s.fault ≡ Some (Card f) → sheet_fault_of f ≡ Card f
-      → length (refusal_text (refusal_number f) (refusal_offset f)) ≤ 41 → Prints bytes before after s
-  of_bad_card f s reads put carried kept short =
+  of_bad_card : (f : CardFault) (s : Sheet) → reading bytes ≡ Err f → Put (refusal_text (refusal_number f) (refusal_offset f)) before after s → s.fault ≡ Some f → length (refusal_text (refusal_number f) (refusal_offset f)) ≤ 41 → Prints bytes before after s
+  of_bad_card f s reads put carried short =
       let text : text_for (reading bytes) ≡ refusal_text (refusal_number f) (refusal_offset f) = ap text_for reads in
       let none : (k : Netlist) → Accepted bytes k → ⊥ = λ k a. ok_err k f (sym (agree.accepted bytes k a) ∙ reads) in
       record {
         answers_the_length_of_the_text = put.long ∙ ap length (sym text);
-        carries_the_fault_of_a_bad_card_whole = carried ∙ ap Some (sym kept) ∙ ap fault_for (sym reads);
+        carries_the_fault_of_a_bad_card_whole = carried ∙ ap fault_for (sym reads);
         writes_the_text_and_leaves_the_bytes_behind_it = put.stands ∙ ap (λ (t : List ℕ). t ++ drop (length t) before) (sym text);
         the_text_has_at_most_65536_bytes = subst (λ (t : List ℕ). length t ≤ sheet_room) (sym text) (omega (arith, short));
         the_sheet_of_a_card_tells_the_truth = λ k a. absurd (none k a);
@@ -130,27 +107,12 @@ module _ (bytes before after : List ℕ) where
             text ∙ ap (λ (x : CardFault). refusal_text (refusal_number x) (refusal_offset x)) same ∙ ap (λ (x : ℕ). refusal_text x (refusal_offset e)) n ∙ ap (refusal_text number) o;
       }
 
--- what `sheet` promises where the buffer has room
-pub record Told (bytes before after : List ℕ) (r : Result Sheet SheetFault) : Type 0 where
-  pub room : r ≡ Err Room → ⊥
-  pub nothing_else : IfErr r (λ e. (e ≡ Room) ⊎ (e ≡ Memory))
-  pub leaves : IfErr r (λ _. after ≡ before)
-  pub prints : IfOk r (λ s. Prints bytes before after s)
-
-pub told : (bytes before after : List ℕ) (p : Result Job SheetFault) (r : Result Sheet SheetFault) → Prepares bytes p → Puts p before r after → Told bytes before after r
-told bytes before after (Ok j) (Ok s) (reads, worked) (put, none, truth, tells) =
-    record { room = λ e. ok_err s Room e; nothing_else = tt; leaves = tt; prints = of_card bytes before after j s reads worked put none truth tells }
-told bytes before after (Ok j) (Err e) prepared puts = absurd puts
+-- what `sheet` prints where the buffer has room
+pub told : (bytes before after : List ℕ) (p : Result Job SheetFault) (r : Result Sheet SheetFault) → Prepares bytes p → Puts p before r after → IfOk r (λ s. Prints bytes before after s)
+told bytes before after (Ok j) (Ok s) (reads, worked) (put, none, truth, tells) = of_card bytes before after j s reads worked put none truth tells
 told bytes before after (Err (Card f)) (Ok s) prepared (put, carried, short) =
     let (g, reads, is) = prepared (card_memory f) in
-    let same : g ≡ f = whole f g is in
-    record {
-      room = λ e. ok_err s Room e;
-      nothing_else = tt;
-      leaves = tt;
-      prints = of_bad_card bytes before after f s (reads ∙ ap Err same) put carried (ap sheet_fault_of (sym same) ∙ sym is) short;
-    }
-told bytes before after (Err (Card f)) (Err e) prepared puts = absurd puts
+    of_bad_card bytes before after f s (reads ∙ ap Err (whole f g is)) put carried short
 told bytes before after (Err Memory) (Ok s) prepared puts = absurd puts
-told bytes before after (Err Memory) (Err e) prepared (is, same) = record { room = λ q. room_memory (sym (err_same e Room q) ∙ is); nothing_else = inr is; leaves = same; prints = tt }
-told bytes before after (Err Room) r prepared puts = let (f, reads, is) = prepared room_memory in absurd (no_room f is)
+told bytes before after (Err Room) (Ok s) prepared puts = absurd puts
+told bytes before after p (Err e) prepared puts = tt

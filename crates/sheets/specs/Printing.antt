@@ -8,9 +8,7 @@ use Rattle.reading.specs.declared.fault.CardFault.{CardFault}
 use Rattle.report.specs.Limits.{sheet_room}
 use Rattle.report.specs.Lines.{refusal_text, sheet_of}
 use Rattle.report.specs.Truths.{Tells, TellsTheTruth}
-use Rattle.sheets.specs.Refusals.{sheet_fault_of}
 use Rattle.sheets.specs.Working.{sheet_view}
-use Rattle.sheets.specs.declared.fault.SheetFault.{SheetFault}
 use Rattle.sheets.specs.declared.sheet.Sheet.{Sheet}
 
 abbrev pub text_for : Result Netlist CardFault → List ℕ
@@ -18,9 +16,9 @@ text_for (Ok c) = sheet_of c (sheet_view c)
 text_for (Err e) = refusal_text (refusal_number e) (refusal_offset e)
 
 -- the fault that is carried beside the length
-abbrev pub fault_for : Result Netlist CardFault → Option SheetFault
+abbrev pub fault_for : Result Netlist CardFault → Option CardFault
 fault_for (Ok c) = None
-fault_for (Err e) = Some (sheet_fault_of e)
+fault_for (Err e) = Some e
 
 -- a sheet was printed from the start of the buffer
 pub record Prints (bytes before after : List ℕ) (sheet : Sheet) : Type 0 where

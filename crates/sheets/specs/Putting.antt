@@ -24,7 +24,7 @@ abbrev pub Puts : Result Job SheetFault → List ℕ → Result Sheet SheetFault
 Puts (Ok j) before (Ok s) after =
     Put (sheet_of (card_held j) (held j)) before after s × (s.fault ≡ None) × TellsTheTruth (card_held j) (sheet_of (card_held j) (held j)) × Tells (card_held j) (held j) (sheet_of (card_held j) (held j))
 Puts (Ok j) before (Err e) after = ⊥
-Puts (Err (Card f)) before (Ok s) after = Put (refusal_text (refusal_number f) (refusal_offset f)) before after s × (s.fault ≡ Some (Card f)) × (length (refusal_text (refusal_number f) (refusal_offset f)) ≤ 41)
+Puts (Err (Card f)) before (Ok s) after = Put (refusal_text (refusal_number f) (refusal_offset f)) before after s × (s.fault ≡ Some f) × (length (refusal_text (refusal_number f) (refusal_offset f)) ≤ 41)
 Puts (Err (Card f)) before (Err e) after = ⊥
 Puts (Err Memory) before (Ok s) after = ⊥
 Puts (Err Memory) before (Err e) after = (e ≡ Memory) × (after ≡ before)

@@ -1,6 +1,8 @@
 // Printing a sheet into a buffer that the caller lends.
 ghost use Rattle.std.specs.Prelude.{◌≡◌, ◌≤◌, ◌⊎◌, length, IfOk, IfErr, Ok, Err, Decides, MatchResult, OnErr, ◌≢◌, nat_lt};
+ghost use Rattle.card.specs.Netlists.{Netlist};
 ghost use Rattle.reading.specs.Reading.{reading};
+ghost use Rattle.reading.specs.Rules.{Accepted};
 ghost use Rattle.reading.specs.declared.fault.CardFault.{CardFault as FaultOfCard};
 ghost use Rattle.job.specs.Jobs.{card_held, held};
 ghost use Rattle.report.specs.Limits.{sheet_room};
@@ -18,7 +20,7 @@ use job::Job;
 use reading::read::from_bytes;
 use report::sheet::{refusal_into, report_into};
 use solvers::Backtracking;
-use std::alloc::{AllocError, Global};
+use std::alloc::Global;
 
 // Room for every sheet.
 pub const SHEET_ROOM: usize = 65_536;
@@ -26,6 +28,7 @@ pub const SHEET_ROOM: usize = 65_536;
 // The job that has worked on every fault of the card that the bytes spell.
 fn prepare<P: Progress>(heap: Global, bytes: &[u8], progress: &mut P) -> Result<Job, SheetFault>
     ensures worked_on_the_card_or_names_the_fault { MatchResult result (λ j. (reading bytes.now ≡ Ok (card_held j)) × (held j ≡ sheet_view (card_held j))) (λ e. (e ≢ OfMemory) → (f : FaultOfCard) × (reading bytes.now ≡ Err f) × (e ≡ sheet_fault_of f)) }
+    ensures want_of_memory_refuses_only_bytes_that_spell_a_card { result ≡ Err OfMemory → (n : Netlist) × Accepted bytes.now n }
 {
     let card = from_bytes(heap, bytes)?;
     let mut job = Job::open(heap, card)?;
@@ -35,6 +38,7 @@ fn prepare<P: Progress>(heap: Global, bytes: &[u8], progress: &mut P) -> Result<
 }
 
 // Prints the sheet of a worked job, or the line of a bad card, from the start of the buffer, which has room for it.
+#[tactic(auto, using(crate::proofs::Printed::modest))]
 fn put(prepared: Result<Job, SheetFault>, buffer: &mut [u8]) -> Result<Sheet, SheetFault>
     requires room { sheet_room ≤ length buffer.old }
     requires of_a_worked_job { Worked prepared }
@@ -46,8 +50,8 @@ fn put(prepared: Result<Job, SheetFault>, buffer: &mut [u8]) -> Result<Sheet, Sh
             fault: None,
         }),
         Err(SheetFault::Card(fault)) => Ok(Sheet {
-            length: refusal_into(fault.number(), fault.offset(), buffer).unwrap(),
-            fault: Some(SheetFault::Card(fault)),
+            length: refusal_into(fault.into(), buffer).unwrap(),
+            fault: Some(fault),
         }),
         Err(fault) => Err(fault),
     }
@@ -55,6 +59,7 @@ fn put(prepared: Result<Job, SheetFault>, buffer: &mut [u8]) -> Result<Sheet, Sh
 
 // Prints the sheet of the card that the bytes spell into the buffer, or the line that says why they spell none.
 // Without room for every sheet, or without memory, nothing is printed and the buffer stays.
+// Memory is wanting only for bytes that spell a card: a bad card has its line.
 pub fn sheet<P: Progress>(
     heap: Global,
     bytes: &[u8],
@@ -63,6 +68,7 @@ pub fn sheet<P: Progress>(
 ) -> Result<Sheet, SheetFault>
     ensures refused_for_room_exactly_below_65536_bytes { Decides (nat_lt (length buffer.old) sheet_room) (result ≡ Err OfRoom) }
     ensures refused_for_nothing_but_room_or_memory { IfErr result (λ e. ((e ≡ OfRoom) ⊎ (e ≡ OfMemory))) }
+    ensures want_of_memory_refuses_only_bytes_that_spell_a_card { result ≡ Err OfMemory → (n : Netlist) × Accepted bytes.now n }
     ensures a_refusal_leaves_the_buffer { OnErr result (buffer.new ≡ buffer.old) }
     ensures prints_the_sheet_and_it_tells_the_truth { IfOk result (λ s. Prints bytes.now buffer.old buffer.new s) }
 {

@@ -1,8 +1,8 @@
 // What a printed sheet answers: how long the text is, and the fault of a bad card.
-use crate::fault::SheetFault;
+use reading::fault::CardFault;
 
 #[derive(Clone, Copy)]
 pub struct Sheet {
     pub length: usize,
-    pub fault: Option<SheetFault>,
+    pub fault: Option<CardFault>,
 }

@@ -12,7 +12,7 @@ use solvers::Backtracking;
 // The steps that a search may take.
 const BUDGET: u64 = 1_000_000;
 
-// Works on one fault.
+// Works on one fault. That the card stays relates before and after, here and below, which no type can say.
 fn work_on(job: &mut Job, solver: &mut Backtracking, fault: usize)
     requires a_fault { fault < fault_count (card_held job.old) }
     requires none_taken { NoneTaken (held job.old) }
@@ -25,7 +25,7 @@ fn work_on(job: &mut Job, solver: &mut Backtracking, fault: usize)
     };
     let _ = job.search(&ticket, solver, BUDGET);
     if let Err(_back) = job.close(ticket) {
-        unreachable()
+        unreachable!()
     }
     if listed < job.vectors().len() {
         let _ = job.sweep(listed);

@@ -5,7 +5,7 @@ use Rattle.solving.specs.Backtracking.{descend}
 use Rattle.solving.specs.Closing.{closure, units}
 use Rattle.solving.specs.Counting.{settings, try_each}
 use Rattle.formula.specs.Formulas.{formula_of}
-use Rattle.history.specs.Granting.{catches_fault}
+use Rattle.faults.specs.Catching.{catches_fault}
 use Rattle.report.specs.Lines.{refusal_text, sheet_text}
 use Rattle.sheets.specs.Working.{found, sheet_view}
 use Rattle.small_cards.specs.Cards.{net_one_at_zero, net_three_at_one, net_zero_at_zero}

@@ -1,4 +1,4 @@
-use Rattle.std.proofs.Common.{◌≡◌, map, get_or, sym, refl, ap, ◌∙◌, arith}
+use Rattle.std.proofs.Common.{◌≡◌, map, get_or, sym, ap, ◌∙◌, arith}
 use Rattle.std.proofs.lemmas.List.{get_or-map, length-map}
 use Rattle.card.specs.Views.{netlist_of}
 use Rattle.vectors.specs.Vectors.{Cells}
@@ -8,9 +8,6 @@ use Rattle.page.specs.Views.{filled_of}
 use Rattle.report.specs.Lines.{ended, vector_rows}
 use Rattle.report.proofs.Putting.{listing_all, listing_more}
 use Rattle.report.proofs.listing.vector_lines.Goals as goal
-
-pub loop-number-init : goal.loop-number-init
-loop-number-init c = refl
 
 pub loop-number-preserved : goal.loop-number-preserved
 loop-number-preserved c =

@@ -8,7 +8,7 @@ use Rattle.report.proofs.sheet.refusal_into.Goals as goal
 
 pub returns : goal.returns
 returns c =
-    let text = refusal_text c.args.number c.args.offset in
+    let text = refusal_text c.args.refusal.number c.args.refusal.offset in
     let last = c.finish.new.self.0 in
     let h = c.finish.ensures in
     let put = c.refusal_line.ensures.puts_the_refusal ∙ ap (putting text) c.new-page.ensures.is_fresh in
@@ -19,5 +19,5 @@ returns c =
       answers_its_length = end.long;
       writes_the_line_as_far_as_it_fits = via last end.left (search (rules, kept));
       leaves_the_bytes_behind_it = λ y. via last (end.behind y) (search (rules, kept));
-      the_line_has_at_most_41_bytes = refusal_fits c.args.number c.args.offset (omega arith) (omega arith);
+      the_line_has_at_most_41_bytes = refusal_fits c.args.refusal.number c.args.refusal.offset (omega arith) (omega arith);
     }

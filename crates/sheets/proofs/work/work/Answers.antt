@@ -1,8 +1,7 @@
-use Rattle.std.proofs.Common.{◌≡◌, ℕ, ◌<◌, List, map, length, sym, ap, ◌∙◌, subst, arith}
+use Rattle.std.proofs.Common.{◌≡◌, List, map, length, sym, ap, ◌∙◌, subst, arith}
 use lib.ListN.{length-map}
 use Rattle.card.specs.Netlists.{Netlist}
 use Rattle.faults.specs.Sites.{fault_count}
-use Rattle.history.specs.Views.{View}
 use Rattle.job.specs.Jobs.{card_held, held}
 use Rattle.job.specs.Tables.{mark_of}
 use Rattle.job.specs.declared.job.Job.{Job}
@@ -16,14 +15,8 @@ use Rattle.sheets.proofs.work.work.Goals as goal
 marked : (j : Job) (ms : List Marked) → map mark_of ms ≡ (held j).marks → length ms ≡ fault_count (card_held j)
 marked j ms e = sym (length-map ms mark_of) ∙ ap length e ∙ all_marked j.table
 
-pub work_on-requires : goal.work_on-requires
-work_on-requires g c =
-    let all = marked c.args.job.now _ c.marks-faults.ensures.are_the_marks in
-    let same : fault_count (card_held c.loop-fault.job) ≡ fault_count (card_held c.args.job.now) = ap fault_count c.loop-fault.invariant.0 in
-    record {
-      a_fault = omega (arith, c.loop-fault-test.true, all, same);
-      none_taken = subst NoneTaken (sym c.loop-fault.invariant.1) (none_taken_to (card_held c.args.job.now) c.loop-fault.fault);
-    }
+pub work_on-requires-clause-none_taken : goal.work_on-requires-clause-none_taken
+work_on-requires-clause-none_taken g c = subst NoneTaken (sym c.loop-fault.invariant.1) (none_taken_to (card_held c.args.job.now) c.loop-fault.fault)
 
 pub loop-fault-preserved : goal.loop-fault-preserved
 loop-fault-preserved g c =
@@ -31,11 +24,8 @@ loop-fault-preserved g c =
     c.work_on.ensures.works_as_defined ∙ ap (λ (k : Netlist). working k (held c.loop-fault.job) c.loop-fault.fault) c.loop-fault.invariant.0 in
     (c.work_on.ensures.card_stays ∙ c.loop-fault.invariant.0, worked_more (card_held c.args.job.now) c.loop-fault.fault (held c.loop-fault.job) (held c.work_on.new.job) c.loop-fault.invariant.1 worked)
 
-pub returns : goal.returns
-returns g c =
+pub returns-clause-reaches_what_is_defined : goal.returns-clause-reaches_what_is_defined
+returns-clause-reaches_what_is_defined g c =
     let all = marked c.args.job.now _ c.marks-faults.ensures.are_the_marks in
     let over : c.loop-fault.fault ≡ fault_count (card_held c.args.job.now) = omega (arith, c.loop-fault-test.false, c.loop-fault.auto.fault-end, all) in
-    record {
-      reaches_what_is_defined = worked_all (card_held c.args.job.now) c.loop-fault.fault (held c.loop-fault.job) over c.loop-fault.invariant.1;
-      card_stays = c.loop-fault.invariant.0;
-    }
+    worked_all (card_held c.args.job.now) c.loop-fault.fault (held c.loop-fault.job) over c.loop-fault.invariant.1

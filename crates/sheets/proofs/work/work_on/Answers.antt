@@ -1,7 +1,6 @@
-use Rattle.std.proofs.Common.{◌≡◌, ℕ, ◌<◌, List, map, length, sym, ap, ◌∙◌, arith}
+use Rattle.std.proofs.Common.{◌≡◌, ◌<◌, List, map, length, sym, ap, ◌∙◌, arith}
 use lib.ListN.{length-map}
 use Rattle.vectors.specs.Views.{cells_of}
-use Rattle.history.specs.Views.{View}
 use Rattle.job.specs.Jobs.{card_held, held}
 use Rattle.job.specs.declared.job.Job.{Job}
 use Rattle.vectors.specs.Vectors.{Cells}
@@ -14,8 +13,8 @@ use Rattle.sheets.proofs.work.work_on.Goals as goal
 counted : (xs : List Vector) (ys : List Cells) → map cells_of xs ≡ ys → length xs ≡ length ys
 counted xs ys e = sym (length-map xs cells_of) ∙ ap length e
 
-pub returns-then-listed-vectors : goal.returns-then-listed-vectors
-returns-then-listed-vectors c =
+pub returns-then-listed-vectors-clause-works_as_defined : goal.returns-then-listed-vectors-clause-works_as_defined
+returns-then-listed-vectors-clause-works_as_defined c =
     let j : Job = c.args.job.now in
     let took = c.in-Ok.ensures in
     let lt : c.args.fault < length (held j).taken = omega (arith, c.requires.a_fault, all_flagged j.table) in
@@ -26,14 +25,11 @@ returns-then-listed-vectors c =
     let listed = counted _ _ c.vectors-listed.ensures.are_the_vectors in
     let more = counted _ _ c.vectors.ensures.are_the_vectors in
     let card = c.close.ensures.the_card_stays ∙ c.search.ensures.the_card_stays ∙ took.the_card_stays in
-    record {
-      works_as_defined = swept_worked (card_held j) (held j) c.args.fault took.granted_exactly_for_an_open_fault_that_is_not_taken (held c.close.new.self) e3 _ listed (card_held c.close.new.self) (held c.sweep.new.self) c.sweep.result card
-          (omega (arith, c.if-listed-vectors.true, more)) c.sweep.ensures.answers_how_many_or_that_there_is_no_such_vector c.sweep.ensures.every_caught_fault_is_marked_or_nothing_changes;
-      card_stays = c.sweep.ensures.the_card_stays ∙ card;
-    }
+    swept_worked (card_held j) (held j) c.args.fault took.granted_exactly_for_an_open_fault_that_is_not_taken (held c.close.new.self) e3 _ listed (card_held c.close.new.self) (held c.sweep.new.self) c.sweep.result card
+    (omega (arith, c.if-listed-vectors.true, more)) c.sweep.ensures.answers_how_many_or_that_there_is_no_such_vector c.sweep.ensures.every_caught_fault_is_marked_or_nothing_changes
 
-pub returns-else-listed-vectors : goal.returns-else-listed-vectors
-returns-else-listed-vectors c =
+pub returns-else-listed-vectors-clause-works_as_defined : goal.returns-else-listed-vectors-clause-works_as_defined
+returns-else-listed-vectors-clause-works_as_defined c =
     let j : Job = c.args.job.now in
     let took = c.in-Ok.ensures in
     let lt : c.args.fault < length (held j).taken = omega (arith, c.requires.a_fault, all_flagged j.table) in
@@ -43,7 +39,4 @@ returns-else-listed-vectors c =
     c.close.ensures.granted_exactly_for_a_taken_fault c.close.ensures.the_fault_is_closed_or_nothing_changes in
     let listed = counted _ _ c.vectors-listed.ensures.are_the_vectors in
     let more = counted _ _ c.vectors.ensures.are_the_vectors in
-    record {
-      works_as_defined = unswept_worked (card_held j) (held j) c.args.fault took.granted_exactly_for_an_open_fault_that_is_not_taken (held c.close.new.self) e3 _ listed (omega (arith, c.if-listed-vectors.false, more));
-      card_stays = c.close.ensures.the_card_stays ∙ c.search.ensures.the_card_stays ∙ took.the_card_stays;
-    }
+    unswept_worked (card_held j) (held j) c.args.fault took.granted_exactly_for_an_open_fault_that_is_not_taken (held c.close.new.self) e3 _ listed (omega (arith, c.if-listed-vectors.false, more))
