@@ -16,7 +16,7 @@ pub(crate) fn close_each(job: &mut Job, tickets: &mut Vec<Ticket>) -> usize
     let count = tickets.len();
     while let Some(ticket) = tickets.pop() {
         if let Err(_back) = job.close(ticket) {
-            unreachable()
+            unreachable!()
         }
     }
     count

@@ -1,11 +1,13 @@
--- One request: the call that it comes to, what is answered, and the tickets afterwards.
+-- One request: the call that it comes to, what is answered, and the tickets and the solver afterwards. Of a solver, m is what it held
+-- before and o what it holds after.
 -- A request for a ticket that the wallet does not have comes to no call.
 use Rattle.std.specs.Prelude.{◌≡◌, ℕ, zero, suc, ◌<◌, ◌≤◌, true, cond, ◌⊎◌, List, [], ◌∷◌, ◌++◌, map, length, is_ok, Ok, Err, Result, slice_index_or}
 use Rattle.std.specs.List.{remove}
 use Rattle.card.specs.Netlists.{Netlist}
+use Rattle.solving.specs.Models.{Model}
 use Rattle.solving.specs.declared.verdict.Solved.{Solved}
 use Rattle.history.specs.Histories.{History}
-use Rattle.history.specs.Steps.{Event, KnownTicket, Step, added, closed, merged, searched, swept, took}
+use Rattle.history.specs.Steps.{Event, KnownTicket, Searched, Step, added, closed, merged, searched, swept, took}
 use Rattle.history.specs.Views.{View}
 use Rattle.history.specs.declared.refusal.AddRefusal.{AddRefusal}
 use Rattle.history.specs.declared.refusal.CloseRefusal.{CloseRefusal}
@@ -52,31 +54,42 @@ at ts i = slice_index_or ts i (mine 0)
 abbrev pub Known : List KnownTicket → List Ticket → Type 0
 Known ks ts = map (λ (k : KnownTicket). k.fault) ks ≡ map (λ (t : Ticket). t.fault) ts
 
+-- what a call leaves of the solver: a granted search has it answer on the fault's formula, which it holds afterwards, with the reading
+-- if it found one; no other call changes it, and no refused one
+abbrev pub Leaves : Netlist → View → Event → View → Model → Model → Type 0
+Leaves c v (took f a) w m o = o ≡ m
+Leaves c v (searched t b (Ok s)) w m o = Searched c v t.fault b s o w
+Leaves c v (searched t b (Err e)) w m o = o ≡ m
+Leaves c v (closed t a) w m o = o ≡ m
+Leaves c v (swept i a) w m o = o ≡ m
+Leaves c v (added x y a) w m o = o ≡ m
+Leaves c v (merged i j a) w m o = o ≡ m
+
 -- the request comes to this call
-abbrev pub Meets : Netlist → View → Event → Reply → History → View → Type 0
-Meets c v e r h w = (h ≡ e ∷ []) × (r ≡ reply_of e) × Step c v e w
+abbrev pub Meets : Netlist → View → Event → Reply → History → View → Model → Model → Type 0
+Meets c v e r h w m o = (h ≡ e ∷ []) × (r ≡ reply_of e) × Step c v e w × Leaves c v e w m o
 
 -- or to none
-abbrev pub Idle : View → Reply → History → View → Type 0
-Idle v r h w = (h ≡ []) × (r ≡ reply.NoTicket) × (w ≡ v)
+abbrev pub Idle : View → Reply → History → View → Model → Model → Type 0
+Idle v r h w m o = (h ≡ []) × (r ≡ reply.NoTicket) × (w ≡ v) × (o ≡ m)
 
-abbrev pub Serves : Netlist → View → List KnownTicket → Request → Reply → History → View → List KnownTicket → Type 0
-Serves c v ks (Take f) r h w ls = (a : Result (Unit {0}) TakeRefusal) × Meets c v (took f a) r h w × (ls ≡ cond (is_ok a) (ks ++ (mine f ∷ [])) ks)
-Serves c v ks (Search i b) r h w ls = (ls ≡ ks) × (((i < length ks) × ((a : Result Solved SearchRefusal) × Meets c v (searched (at ks i) b a) r h w)) ⊎ ((length ks ≤ i) × Idle v r h w))
-Serves c v ks (Close i) r h w ls =
-    ((i < length ks) × ((a : Result (Unit {0}) CloseRefusal) × Meets c v (closed (at ks i) a) r h w × (ls ≡ cond (is_ok a) (remove ks i) ks)))
-    ⊎ ((length ks ≤ i) × Idle v r h w × (ls ≡ ks))
-Serves c v ks (Sweep i) r h w ls = (ls ≡ ks) × ((a : Result ℕ VectorRefusal) × Meets c v (swept i a) r h w)
-Serves c v ks (Add x y) r h w ls = (ls ≡ ks) × ((a : Result ℕ AddRefusal) × Meets c v (added x y a) r h w)
-Serves c v ks (Merge i j) r h w ls = (ls ≡ ks) × ((a : Result (Unit {0}) MergeRefusal) × Meets c v (merged i j a) r h w)
+abbrev pub Serves : Netlist → View → List KnownTicket → Request → Reply → History → View → List KnownTicket → Model → Model → Type 0
+Serves c v ks (Take f) r h w ls m o = (a : Result (Unit {0}) TakeRefusal) × Meets c v (took f a) r h w m o × (ls ≡ cond (is_ok a) (ks ++ (mine f ∷ [])) ks)
+Serves c v ks (Search i b) r h w ls m o = (ls ≡ ks) × (((i < length ks) × ((a : Result Solved SearchRefusal) × Meets c v (searched (at ks i) b a) r h w m o)) ⊎ ((length ks ≤ i) × Idle v r h w m o))
+Serves c v ks (Close i) r h w ls m o =
+    ((i < length ks) × ((a : Result (Unit {0}) CloseRefusal) × Meets c v (closed (at ks i) a) r h w m o × (ls ≡ cond (is_ok a) (remove ks i) ks)))
+    ⊎ ((length ks ≤ i) × Idle v r h w m o × (ls ≡ ks))
+Serves c v ks (Sweep i) r h w ls m o = (ls ≡ ks) × ((a : Result ℕ VectorRefusal) × Meets c v (swept i a) r h w m o)
+Serves c v ks (Add x y) r h w ls m o = (ls ≡ ks) × ((a : Result ℕ AddRefusal) × Meets c v (added x y a) r h w m o)
+Serves c v ks (Merge i j) r h w ls m o = (ls ≡ ks) × ((a : Result (Unit {0}) MergeRefusal) × Meets c v (merged i j a) r h w m o)
 
--- the first n requests were served in turn, and these are the replies
-abbrev pub Served : Netlist → View → List KnownTicket → List Request → ℕ → List Reply → History → View → List KnownTicket → Type 0
-Served c v ks qs zero rs h w ls = (rs ≡ []) × (h ≡ []) × (w ≡ v) × (ls ≡ ks)
-Served c v ks qs (suc n) rs h w ls =
-    (earlier : List Reply) × (past : History) × (u : View) × (ms : List KnownTicket) × Served c v ks qs n earlier past u ms
-    × ((r : Reply) × (call : History) × Serves c u ms (slice_index_or qs n (Take 0)) r call w ls × (rs ≡ earlier ++ (r ∷ [])) × (h ≡ call ++ past))
+-- the first n requests were served in turn, and these are the replies; the solver held m before them all and holds o after
+abbrev pub Served : Netlist → View → List KnownTicket → List Request → ℕ → List Reply → History → View → List KnownTicket → Model → Model → Type 0
+Served c v ks qs zero rs h w ls m o = (rs ≡ []) × (h ≡ []) × (w ≡ v) × (ls ≡ ks) × (o ≡ m)
+Served c v ks qs (suc n) rs h w ls m o =
+    (earlier : List Reply) × (past : History) × (u : View) × (ms : List KnownTicket) × (x : Model) × Served c v ks qs n earlier past u ms m x
+    × ((r : Reply) × (call : History) × Serves c u ms (slice_index_or qs n (Take 0)) r call w ls x o × (rs ≡ earlier ++ (r ∷ [])) × (h ≡ call ++ past))
 
 -- one request was served, whoever gave the tickets
-pub record One (c : Netlist) (v : View) (ts : List Ticket) (q : Request) (r : Reply) (w : View) (us : List Ticket) : Type 0 where
-  pub serves : (ks : List KnownTicket) → Known ks ts → (h : History) × (ls : List KnownTicket) × (Known ls us × Serves c v ks q r h w ls)
+pub record One (c : Netlist) (v : View) (ts : List Ticket) (q : Request) (r : Reply) (w : View) (us : List Ticket) (m o : Model) : Type 0 where
+  pub serves : (ks : List KnownTicket) → Known ks ts → (h : History) × (ls : List KnownTicket) × (Known ls us × Serves c v ks q r h w ls m o)

@@ -1,11 +1,13 @@
-// Why a request was refused: the refusal of its call, carried whole, with its number.
-ghost use Rattle.std.specs.Prelude.{◌≡◌};
+// Why a request was refused: the refusal of its call, carried whole, with its number, by which it is shown.
+ghost use Rattle.std.specs.Prelude.{◌≡◌, Some};
+ghost use Rattle.faults.specs.Refusals.{refused_text};
 ghost use Rattle.requests.specs.Refusals.{refusal_number};
 ghost use Rattle.requests.specs.declared.refusal.Refusal.TheVariants.{Add as OfAdd, Close as OfClose, Merge as OfMerge, Search as OfSearch, Sweep as OfSweep, Take as OfTake};
 
 use history::refusal::{
     AddRefusal, CloseRefusal, MergeRefusal, SearchRefusal, TakeRefusal, VectorRefusal,
 };
+use std::fmt;
 
 #[derive(Clone, Copy)]
 pub enum Refusal {
@@ -30,6 +32,15 @@ impl Refusal {
             Refusal::Add(why) => why.number(),
             Refusal::Merge(why) => why.number(),
         }
+    }
+}
+
+impl fmt::Display for Refusal {
+    ghost output = { λ why. Some (refused_text (refusal_number why)) };
+
+    fn fmt<W: fmt::Write>(&self, f: &mut fmt::Formatter<W>) -> fmt::Result {
+        let number = self.number();
+        write!(f, "refused {number}")
     }
 }
 

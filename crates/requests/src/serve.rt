@@ -1,5 +1,6 @@
 // One request, asked of the job.
 ghost use Rattle.std.specs.Prelude.{◌≡◌, ◌+◌, ◌<◌, ◌≤◌, vec_len, vec_capacity};
+ghost use Rattle.solving.specs.Models.{Model};
 ghost use Rattle.job.specs.Jobs.{card_held, held};
 ghost use Rattle.requests.specs.Serving.{One, replied};
 ghost use Rattle.requests.specs.declared.request.Request.TheVariants.{Close as Closes};
@@ -13,7 +14,7 @@ use ways::Answering;
 
 // Closes the ticket at this place; a ticket that is handed back returns to it.
 fn close(job: &mut Job, wallet: &mut Vec<Ticket>, place: usize) -> Result<Reply, Refusal>
-    ensures served { One (card_held job.old) (held job.old) wallet.old.items (Closes place) (replied result) (held job.new) wallet.new.items }
+    ensures served { (m : Model) → One (card_held job.old) (held job.old) wallet.old.items (Closes place) (replied result) (held job.new) wallet.new.items m m }
     ensures card_stays { card_held job.new ≡ card_held job.old }
     ensures none_more { vec_len wallet.new ≤ vec_len wallet.old }
     ensures room_stays { vec_capacity wallet.old ≤ vec_capacity wallet.new }
@@ -22,15 +23,17 @@ fn close(job: &mut Job, wallet: &mut Vec<Ticket>, place: usize) -> Result<Reply,
         return Ok(Reply::NoTicket);
     }
     let ticket = wallet.remove(place);
-    let Err(Back { why, ticket }) = job.close(ticket) else {
-        return Ok(Reply::Closed);
-    };
-    put_back(wallet, place, ticket);
-    Err(Refusal::from(why))
+    match job.close(ticket) {
+        Ok(()) => Ok(Reply::Closed),
+        Err(Back { why, ticket }) => {
+            put_back(wallet, place, ticket);
+            Err(Refusal::from(why))
+        }
+    }
 }
 
-// What the job answers to the request. The wallet is the caller's own, and that its room stays relates before and
-// after, which no type can say.
+// What the job answers to the request. Job, solver and wallet are each the caller's own: in one type each call would have to promise
+// too that they are the ones that were lent. That the wallet's room stays relates before and after, which no type can say.
 fn answer<S: Answering>(
     job: &mut Job,
     solver: &mut S,
@@ -38,7 +41,7 @@ fn answer<S: Answering>(
     request: Request,
 ) -> Result<Reply, Refusal>
     requires room { vec_len wallet.old < vec_capacity wallet.old }
-    ensures served { One (card_held job.old) (held job.old) wallet.old.items request (replied result) (held job.new) wallet.new.items }
+    ensures served { One (card_held job.old) (held job.old) wallet.old.items request (replied result) (held job.new) wallet.new.items (S.Solver.model solver.old) (S.Solver.model solver.new) }
     ensures card_stays { card_held job.new ≡ card_held job.old }
     ensures at_most_one_more { vec_len wallet.new ≤ vec_len wallet.old + 1 }
     ensures room_stays { vec_capacity wallet.old ≤ vec_capacity wallet.new }
@@ -72,7 +75,7 @@ pub(crate) fn serve<S: Answering>(
     request: Request,
 ) -> Reply
     requires room { vec_len wallet.old < vec_capacity wallet.old }
-    ensures served { One (card_held job.old) (held job.old) wallet.old.items request result (held job.new) wallet.new.items }
+    ensures served { One (card_held job.old) (held job.old) wallet.old.items request result (held job.new) wallet.new.items (S.Solver.model solver.old) (S.Solver.model solver.new) }
     ensures card_stays { card_held job.new ≡ card_held job.old }
     ensures at_most_one_more { vec_len wallet.new ≤ vec_len wallet.old + 1 }
     ensures room_stays { vec_capacity wallet.old ≤ vec_capacity wallet.new }

@@ -13,6 +13,6 @@ pub(crate) fn put_back(wallet: &mut Vec<Ticket>, place: usize, ticket: Ticket)
     ensures room_stays { vec_capacity wallet.old ≤ vec_capacity wallet.new }
 {
     if let Err(_back) = wallet.insert(place, ticket) {
-        unreachable()
+        unreachable!()
     }
 }

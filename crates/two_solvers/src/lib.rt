@@ -3,6 +3,7 @@
 #![tactic(auto)]
 
 ghost use Rattle.std.specs.Prelude.{◌≡◌, IfOk};
+ghost use Rattle.solving.specs.Models.{Model, fresh};
 ghost use Rattle.job.specs.Jobs.{card_held, held};
 ghost use Rattle.two_solvers.specs.Joining.{Joined};
 
@@ -27,7 +28,7 @@ pub fn two_runs<S: Answering, R: Answering>(
     wallet: &mut Vec<Ticket>,
     requests: (&[Request], &[Request]),
 ) -> Result<Replies, AllocError>
-    ensures the_promise_holds_over_both_runs { IfOk result (λ replies. Joined (card_held job.old) (held job.old) wallet.old.items requests.entry.0.now requests.entry.1.now replies.first.items replies.second.items (held job.new) wallet.new.items) }
+    ensures the_promise_holds_over_both_runs { IfOk result (λ replies. Joined (card_held job.old) (held job.old) wallet.old.items requests.entry.0.now requests.entry.1.now replies.first.items replies.second.items (held job.new) wallet.new.items (S.Solver.model solvers.entry.0.now) (S.Solver.model solvers.exit.0.now) (R.Solver.model solvers.entry.1.now) (R.Solver.model solvers.exit.1.0.now)) }
     ensures the_card_stays { card_held job.new ≡ card_held job.old }
 {
     let first = run(heap, job, solvers.0, wallet, requests.0)?;
@@ -42,7 +43,7 @@ pub fn by_both(
     wallet: &mut Vec<Ticket>,
     requests: (&[Request], &[Request]),
 ) -> Result<Replies, AllocError>
-    ensures the_promise_holds_over_both_runs { IfOk result (λ replies. Joined (card_held job.old) (held job.old) wallet.old.items requests.entry.0.now requests.entry.1.now replies.first.items replies.second.items (held job.new) wallet.new.items) }
+    ensures the_promise_holds_over_both_runs { IfOk result (λ replies. (o : Model) × ((q : Model) × Joined (card_held job.old) (held job.old) wallet.old.items requests.entry.0.now requests.entry.1.now replies.first.items replies.second.items (held job.new) wallet.new.items fresh o fresh q)) }
     ensures the_card_stays { card_held job.new ≡ card_held job.old }
 {
     let mut backtracking = Backtracking::new(heap)?;
