@@ -19,7 +19,7 @@ function_number One = 9
 abbrev pub functions : List Function
 functions = Ida ∷ And2 ∷ Or2 ∷ Xor2 ∷ Inva ∷ Nand2 ∷ Nor2 ∷ Xnor2 ∷ Zero ∷ One ∷ []
 
--- the function of a number below ten
+-- the function of a number below ten (it is asked of no other)
 abbrev pub function_of : ℕ → Function
 function_of d = slice_index_or functions d One
 

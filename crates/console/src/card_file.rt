@@ -1,6 +1,7 @@
 // The card file: the card in the file that a program's first argument names, or why its bytes are refused.
-// No contract can say what a file has, so what is promised is that some bytes read as what is handed out.
-ghost use Rattle.std.specs.Prelude.{◌≡◌, ℕ, List, IfOk, MatchResult, Ok, Err};
+// Of a reader whose bytes are known, what is handed out is what all of them read as. Of a file no contract says what it has, so there
+// it is what some bytes read as.
+ghost use Rattle.std.specs.Prelude.{◌≡◌, ℕ, List, IfOk, IfSome, MatchResult, Ok, Err};
 ghost use Rattle.card.specs.Views.{netlist_of};
 ghost use Rattle.reading.specs.Reading.{reading};
 
@@ -9,10 +10,12 @@ use card::netlist::Card;
 use reading::fault::CardFault;
 use reading::read::from_bytes;
 use std::alloc::Global;
-use std::{env, fs};
+use std::env;
+use std::fs::File;
+use std::io::Read;
 
 // The card that the bytes spell, or why they spell none. Want of memory is no refusal of the bytes, but an error.
-fn card_of(heap: Global, bytes: &[u8]) -> anyhow::Result<Result<Card, CardFault>>
+pub fn card_of(heap: Global, bytes: &[u8]) -> anyhow::Result<Result<Card, CardFault>>
     ensures is_what_the_bytes_read { IfOk result (λ r. MatchResult r (λ card. reading bytes.now ≡ Ok (netlist_of card)) (λ e. reading bytes.now ≡ Err e)) }
 {
     match from_bytes(heap, bytes) {
@@ -20,6 +23,15 @@ fn card_of(heap: Global, bytes: &[u8]) -> anyhow::Result<Result<Card, CardFault>
         Err(CardFault::Memory) => Err(anyhow!("no memory to hold the card")),
         Err(fault) => Ok(Err(fault)),
     }
+}
+
+// The card that the rest of a reader's bytes spell, or why they spell none.
+fn card_from<R: Read>(heap: Global, reader: &mut R) -> anyhow::Result<Result<Card, CardFault>>
+    ensures is_what_all_its_bytes_read { IfOk result (λ r. (bytes : List ℕ) × IfSome (R.remaining reader.old) (λ rest. bytes ≡ rest) × MatchResult r (λ card. reading bytes ≡ Ok (netlist_of card)) (λ e. reading bytes ≡ Err e)) }
+{
+    let mut bytes = Vec::new(heap);
+    reader.read_to_end(&mut bytes)?;
+    card_of(heap, bytes.as_slice())
 }
 
 // The card in the file that the first argument names; without an argument the error is how the program is called.
@@ -31,6 +43,6 @@ pub fn card_named(rt: &HostRuntime, usage: &str) -> anyhow::Result<Result<Card, 
     let Some(path) = env::args(rt)?.nth(1) else {
         return Err(Error::msg(usage));
     };
-    let bytes = fs::read(rt, path.as_str())?;
-    card_of(rt.alloc(), bytes.as_slice())
+    let mut file = File::open(rt, path.as_str())?;
+    card_from(rt.alloc(), &mut file)
 }

@@ -2,10 +2,13 @@
 // It answers a card's counts and canonical bytes, or its refusal, and of two good cards whether they are alike.
 #![tactic(auto)]
 
+#[cfg(test)]
+mod lent;
+
 use card::alike::alike;
 use card::netlist::Card;
+use console::card_of;
 use hex::{FromHexError, decode, encode};
-use reading::read::from_bytes;
 use reading::write::write;
 use std::alloc::{AllocError, Global};
 use std::io::{BufRead, BufReader};
@@ -38,7 +41,7 @@ fn open(rt: &HostRuntime, text: &str) -> anyhow::Result<Option<Card>> {
         println!(rt; "no bytes")?;
         return Ok(None);
     };
-    match from_bytes(rt.alloc(), bytes.as_slice()) {
+    match card_of(rt.alloc(), bytes.as_slice())? {
         Ok(card) => Ok(Some(card)),
         Err(fault) => {
             println!(rt; "{fault}")?;

@@ -21,7 +21,7 @@ word bs i = 256 * slice_index bs i + slice_index bs (i + 1)
 abbrev pub net_at : List ℕ → ℕ → ℕ → Result ℕ OperandFault
 net_at rest place at = cond (nat_lt (place + 1) (length rest)) (Ok (word rest place)) (Err (Cut at))
 
--- the operands of a command with so many
+-- the operands of a command with so many (no command has more than two)
 abbrev pub operands_in : List ℕ → ℕ → Operands
 operands_in rest count = cond (count == 0) NoOperand (cond (count == 1) (One (word rest 1)) (Two (word rest 1) (word rest 3)))
 

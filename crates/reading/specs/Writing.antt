@@ -15,7 +15,7 @@ commands_of c = replicate c.inputs AddInput ++ (map AddGate c.gates ++ map AddOu
 abbrev pub written : Netlist → List ℕ
 written c = all_spelled (commands_of c) ++ (0x7f ∷ [])
 
--- its three parts as they are written
+-- the gates and the outputs as they are written
 abbrev pub gates_written : List Gate → List ℕ
 gates_written gs = flat_map (λ g. spelled (AddGate g)) gs
 

@@ -1,5 +1,9 @@
+pub mod Places
+pub mod Keeping
+pub mod Exactness
 pub mod Below
 pub mod Entering
 pub mod Steps
 pub mod Walked
 pub mod Meant
+pub mod Begun

@@ -1,7 +1,7 @@
 -- One gate more of a walk, over an array that holds the nets made so far and leaves the rest.
 -- The definition appends to a list; the code writes into an array at the next place.
-use Rattle.std.proofs.Common.{◌≡◌, ℕ, suc, ◌+◌, ◌<◌, true, List, [], ◌∷◌, ◌++◌, length, get_or, take, drop, set, Option, sym, refl, ap, ◌∙◌, ap₂, add_assoc, arith, get_or-take, drop-drop, take-suc-set, drop-set-lt}
-use Rattle.std.proofs.lemmas.List.{at_drop_more, at_drop_all}
+use Rattle.std.proofs.Common.{◌≡◌, ℕ, suc, ◌+◌, ◌<◌, true, List, [], ◌∷◌, ◌++◌, length, get_or, take, drop, set, Option, sym, refl, ap, ◌∙◌, ap₂, add-zero, add_assoc, arith, get_or-take, length-drop, drop-drop, take-suc-set, drop-set-lt}
+use Rattle.std.proofs.lemmas.List.{at_drop_more, at_drop_all, get_or-drop}
 use Rattle.card.specs.declared.gate.Gate.{Gate}
 use Rattle.card.specs.Netlists.{Ordered, all_below, pins_of}
 use Rattle.signal.specs.declared.line.Stuck.{Stuck}
@@ -36,14 +36,25 @@ module _ {S : Type 0} (o : Operations S) (t : Option Stuck) where
       ∙ ap (λ ns. walked o t (suc j) ns (drop (i + 1) gs)) (take-suc-set xs j v hj ∙ ap (λ w. take j xs ++ (w ∷ [])) f)
       ∙ sym (at_drop_more (walked o t j (take j xs)) gs i g hi)
 
-  -- behind the last gate the walk is the whole walk
-  pub walked_all : (xs start entry : List S) (k r i : ℕ) (gs items : List Gate) → r ≡ k → items ≡ gs → i ≡ length items
-      → walked o t (r + i) (take (r + i) xs) (drop i items) ≡ walked o t r (take r start) items → take r start ≡ entered o t 0 (take r entry)
-      → take (k + length gs) xs ≡ walked o t k (entered o t 0 (take k entry)) gs
-  walked_all xs start entry k r i gs items er ei el ew en =
+  -- behind the last gate the walk is the whole walk from the first one
+  pub walked_end : (xs start : List S) (k r i : ℕ) (gs items : List Gate) → r ≡ k → items ≡ gs → i ≡ length items
+      → walked o t (r + i) (take (r + i) xs) (drop i items) ≡ walked o t r (take r start) items → take (k + length gs) xs ≡ walked o t k (take k start) gs
+  walked_end xs start k r i gs items er ei el ew =
       let n : k + length gs ≡ r + i = omega (arith, er, el, ap length ei) in
       ap (λ m. take m xs) n ∙ sym (at_drop_all (walked o t (r + i) (take (r + i) xs)) items i (omega arith)) ∙ ew
-      ∙ ap (λ ns. walked o t r ns items) en ∙ ap₂ (λ m hs. walked o t m (entered o t 0 (take m entry)) hs) er ei
+      ∙ ap₂ (λ m hs. walked o t m (take m start) hs) er ei
+
+  -- a walk from the first gate on, over inputs that were entered
+  pub walked_all : (xs start entry : List S) (k r n : ℕ) (gs : List Gate) → r ≡ k → take n xs ≡ walked o t (k + 0) (take (k + 0) start) gs → take r start ≡ entered o t 0 (take r entry)
+      → take n xs ≡ walked o t k (entered o t 0 (take k entry)) gs
+  walked_all xs start entry k r n gs er ew en =
+      ew ∙ ap (λ m. walked o t m (take m start) gs) (add-zero k)
+      ∙ ap (λ ns. walked o t k ns gs) (ap (λ m. take m start) (sym er) ∙ en ∙ ap (λ m. entered o t 0 (take m entry)) er)
+
+-- gates from the n-th on read nets before them too
+pub ordered_from : (k n : ℕ) (gs : List Gate) → Ordered k gs → Ordered (k + n) (drop n gs)
+ordered_from k n gs r i d h =
+    ap₂ (λ m g. all_below m (pins_of g)) (add_assoc k n i) (get_or-drop n gs i d) ∙ r (n + i) d (let e = length-drop n gs in omega arith)
 
 -- the entries behind the one that is written stay
 pub rest_more : {S : Type 0} (xs ys : List S) (k i : ℕ) (v : S) → drop (k + i) xs ≡ drop (k + i) ys → drop (k + (i + 1)) (set xs (k + i) v) ≡ drop (k + (i + 1)) ys
@@ -55,5 +66,6 @@ rest_more xs ys k i v e =
 pub rest_later : {S : Type 0} (xs ys : List S) (k n : ℕ) → drop k xs ≡ drop k ys → drop (k + n) xs ≡ drop (k + n) ys
 rest_later xs ys k n e = sym (drop-drop n k xs) ∙ ap (drop n) e ∙ drop-drop n k ys
 
-pub rest_all : {S : Type 0} (xs start entry : List S) (n r i : ℕ) → n ≡ r + i → drop (r + i) xs ≡ drop (r + i) start → drop r start ≡ drop r entry → drop n xs ≡ drop n entry
-rest_all xs start entry n r i e a b = ap (λ m. drop m xs) e ∙ a ∙ rest_later start entry r i b ∙ ap (λ m. drop m entry) (sym e)
+-- the entries behind all nets stay, where those behind the first ones do
+pub rest_all : {S : Type 0} (start entry : List S) (k r n : ℕ) → r ≡ k → drop r start ≡ drop r entry → drop (k + n) start ≡ drop (k + n) entry
+rest_all start entry k r n e a = ap (λ m. drop (m + n) start) (sym e) ∙ rest_later start entry r n a ∙ ap (λ m. drop (m + n) entry) e

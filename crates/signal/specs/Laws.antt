@@ -5,7 +5,7 @@ use Rattle.signal.specs.Operations.{Operations, differ}
 
 -- every value allows some bit
 abbrev pub Inhabited : {S : Type 0} → (S → Bool → Type 0) → Type 0
-Inhabited allows = (x : _) → (b : Bool) × allows x b
+Inhabited {S} allows = (x : S) → (b : Bool) × allows x b
 
 -- the value allows this bit and no other
 pub record Only {S : Type 0} (allows : S → Bool → Type 0) (x : S) (b : Bool) : Type 0 where

@@ -9,5 +9,4 @@ pub mod Meanings
 pub mod Ternaries
 pub mod Unknowns
 pub mod Exactly
-pub mod Keeping
-pub mod Places
+pub mod GateLaws

@@ -1,16 +1,14 @@
 -- The three values are exact: an answer allows exactly the bits that allowed bits, chosen independently, make.
 -- It is shown over any function of one or two bits, and used for each operation.
 use Rattle.std.specs.Prelude.{◌≡◌, Bool, true, false, cond, not, ◌&&◌, ◌||◌, refl}
-use Rattle.std.proofs.Common.{sym, ◌∙◌, ap, ⊎_elim}
-use Rattle.std.proofs.lemmas.Bool.{and_parts, and_from, or_cases, or_left, or_right, false≢true}
+use Rattle.std.proofs.Common.{sym, ◌∙◌, ⊎_elim}
+use Rattle.std.proofs.lemmas.Bool.{and_parts, and_from, or_cases, or_left, or_right}
 use Rattle.signal.specs.declared.ternary.Ternary.{Ternary}
 use Rattle.signal.specs.declared.ternary.Ternary.TheVariants.{Low, High, X}
 use Rattle.signal.specs.Operations.{differ}
 use Rattle.signal.specs.Laws.{Inhabited, Sound}
-use Rattle.signal.specs.Gates.{truth}
-use Rattle.signal.specs.Exacts.{MadeOfOne, MadeOfTwo, Exact, GatesExact}
-use Rattle.signal.specs.Ternaries.{Allows, has, same, makes, makes_of_two, of, ternary_operations, UnknownWhereBothAreMade}
-use Rattle.signal.specs.Exactly.{gates_exact}
+use Rattle.signal.specs.Exacts.{MadeOfOne, MadeOfTwo, Exact}
+use Rattle.signal.specs.Ternaries.{Allows, has, same, makes, makes_of_two, of, ternary_operations}
 
 pub ternary_inhabited : Inhabited Allows
 ternary_inhabited Low = (false, refl)
@@ -105,19 +103,3 @@ ternary_exact =
       either = answer_back ◌||◌;
       unlike = answer_back differ;
     }
-
-unknown : (x : Ternary) → Allows x false → Allows x true → x ≡ X
-unknown Low a b = absurd (false≢true b)
-unknown High a b = absurd (false≢true a)
-unknown X a b = refl
-
-pub ternary_gates_exact : GatesExact ternary_operations Allows
-ternary_gates_exact = gates_exact ternary_operations Allows ternary_exact ternary_inhabited
-
-pub unknown_where_both_are_made : UnknownWhereBothAreMade
-unknown_where_both_are_made f pins =
-    let e = ternary_gates_exact in (
-      λ u.
-          (e.makes_what_is_allowed f pins false (ap (λ x. has x false) u), e.makes_what_is_allowed f pins true (ap (λ x. has x true) u)),
-      λ m. unknown (truth ternary_operations f pins) (e.allows_what_is_made f pins false m.0) (e.allows_what_is_made f pins true m.1),
-    )

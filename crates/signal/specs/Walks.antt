@@ -17,6 +17,11 @@ abbrev pub is_pin : Line → ℕ → ℕ → Bool
 is_pin (Net i) j p = false
 is_pin (Pin i q) j p = i == j && q == p
 
+-- the net of a line: the net itself, or the one that the pin's gate makes
+abbrev pub net_of : Line → ℕ
+net_of (Net i) = i
+net_of (Pin i q) = i
+
 -- net j sticks, with all its readers
 abbrev pub sticks_net : Option Stuck → ℕ → Bool
 sticks_net None j = false
@@ -27,6 +32,7 @@ abbrev pub sticks_pin : Option Stuck → ℕ → ℕ → Bool
 sticks_pin None j p = false
 sticks_pin (Some s) j p = is_pin s.line j p
 
+-- (where nothing sticks no level is asked for)
 abbrev pub level_of : Option Stuck → Bool
 level_of None = false
 level_of (Some s) = s.level
@@ -37,6 +43,7 @@ module _ {S : Type 0} (o : Operations S) (t : Option Stuck) where
   unless_stuck b x = cond b (o.constant (level_of t)) x
 
   -- the values of the pins from number p on, which read these nets, of the gate that makes net j; xs are the nets before it
+  -- (a net that is not there, which no pin of a lawful card reads, counts as 0)
   abbrev pub pin_values : List S → ℕ → ℕ → List ℕ → List S
   pin_values xs j p [] = []
   pin_values xs j p (a ∷ reads) = unless_stuck (sticks_pin t j p) (slice_index_or xs a (o.constant false)) ∷ pin_values xs j (suc p) reads

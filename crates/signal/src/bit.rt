@@ -3,11 +3,14 @@
 ghost use Rattle.std.specs.Prelude.{◌≡◌};
 ghost use Rattle.signal.specs.Operations.{bit_operations};
 ghost use Rattle.std.proofs.Common.{rules};
+ghost use Rattle.std.proofs.Math.Nat.{zero-lt-suc};
 
 use crate::kind::Signal;
 
 impl Signal for bool {
     ghost lanes = { 1 };
+
+    ghost some_lane = { zero-lt-suc 0 };
 
     ghost allows = { λ x l b. b ≡ x };
 

@@ -8,6 +8,9 @@ pub trait Signal: Sized {
     // How many lanes a value has; each lane is a signal of its own.
     ghost lanes: { ℕ };
 
+    // There is at least one, so that the laws below say something.
+    ghost some_lane: { 0 < lanes };
+
     // The bits that a value allows in a lane.
     ghost allows: { Self → ℕ → Bool → Type 0 };
 
@@ -32,7 +35,7 @@ pub trait Signal: Sized {
     // A value allows at least one bit in each lane.
     ghost inhabited: { (l : ℕ) → l < lanes → Inhabited (λ x. allows x l) };
 
-    // An answer allows every bit that the function makes from allowed bits.
+    // An answer allows every bit that the operation makes from allowed bits; so does every gate's (`walk`).
     ghost sound: { (l : ℕ) → l < lanes → Sound operations (λ x. allows x l) };
 
     // Where each operand allows one bit, so does the answer.

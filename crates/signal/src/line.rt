@@ -1,7 +1,7 @@
 // The line that sticks: a net with all its readers, or one pin of one gate.
 // No line (`None`) is the good card, where nothing sticks.
 ghost use Rattle.std.specs.Prelude.{◌≡◌};
-ghost use Rattle.signal.specs.Walks.{is_net, is_pin, level_of, sticks_net, sticks_pin};
+ghost use Rattle.signal.specs.Walks.{is_net, is_pin, level_of, net_of, sticks_net, sticks_pin};
 
 #[derive(Clone, Copy, PartialEq, Eq)]
 pub enum Line {
@@ -19,6 +19,16 @@ pub struct Stuck {
 }
 
 impl Line {
+    // The net itself, or the net that the pin's gate makes: where the line changes a walk first.
+    pub fn net(self) -> usize
+        ensures is_the_lines_net { result ≡ net_of self }
+    {
+        match self {
+            Line::Net(net) => usize::from(net),
+            Line::Pin(net, _) => usize::from(net),
+        }
+    }
+
     // Whether the line is this net.
     fn is_net(self, net: usize) -> bool
         ensures tells_whether_it_is_the_net { result ≡ is_net self net }

@@ -4,6 +4,7 @@ ghost use Rattle.signal.specs.Exacts.{GatesExact};
 ghost use Rattle.signal.specs.Ternaries.{Allows, ternary_operations, UnknownWhereBothAreMade};
 ghost use Rattle.signal.specs.Unknowns.{ternary_inhabited, ternary_sound, ternary_exact};
 ghost use Rattle.signal.specs.Exactly.{exact_definite};
+ghost use Rattle.std.proofs.Math.Nat.{zero-lt-suc};
 
 use crate::kind::Signal;
 
@@ -35,6 +36,8 @@ const XOR: [[Ternary; 3]; 3] = [
 
 impl Signal for Ternary {
     ghost lanes = { 1 };
+
+    ghost some_lane = { zero-lt-suc 0 };
 
     ghost allows = { λ x l b. Allows x b };
 

@@ -43,7 +43,7 @@ fn end<S: Signal + Copy>(function: Function, x: S) -> S
     }
 }
 
-// A net that a gate makes, beside the line that sticks.
+// A net, mostly one that a gate makes, beside the line that sticks.
 #[derive(Clone, Copy)]
 pub(crate) struct GateNet {
     pub(crate) stuck: Option<Stuck>,
@@ -52,7 +52,7 @@ pub(crate) struct GateNet {
 
 impl GateNet {
     // The stuck level where the test holds, else the value.
-    fn unless_stuck<S: Signal + Copy>(self, sticks: bool, x: S) -> S
+    pub(crate) fn unless_stuck<S: Signal + Copy>(self, sticks: bool, x: S) -> S
         ensures is_the_level_or_the_value { result ≡ unless_stuck S.Signal.operations self.stuck sticks x }
     {
         if sticks {

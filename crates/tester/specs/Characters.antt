@@ -13,11 +13,11 @@ use Rattle.vectors.specs.Vectors.{Cells, Fills, start}
 abbrev pub good_nets : Netlist → Cells → List Ternary
 good_nets c v = net_values ternary_operations None c (start c.inputs v)
 
--- one character 0, 1 or X for each output
+-- one character 0, 1 or X for each output (each names a net that the card has)
 abbrev pub characters : Netlist → Cells → List ℕ
 characters c v = map (λ net. character_of (slice_index_or (good_nets c v) net X)) c.outputs
 
--- the bit that a setting makes at an output
+-- the bit that a setting makes at an output (asked of outputs that the card has)
 abbrev pub bit_at_output : Netlist → List Bool → ℕ → Bool
 bit_at_output c bits i = slice_index_or (net_values bit_operations None c bits) (slice_index c.outputs i) false
 

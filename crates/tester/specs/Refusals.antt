@@ -1,7 +1,7 @@
 -- The number of every way in which the tester is refused.
 use Rattle.std.specs.Prelude.{ℕ}
 use Rattle.reading.specs.Refusals.{refusal_number}
-use Rattle.vectors.specs.Faults.{vector_refusal}
+use Rattle.vectors.specs.Refusals.{vector_refusal}
 use Rattle.tester.specs.declared.fault.TesterFault.{TesterFault}
 use Rattle.tester.specs.declared.fault.TesterFault.TheVariants.{Card, Vector, Room}
 

@@ -7,7 +7,7 @@ use Rattle.std.proofs.lemmas.Nat.{shl_whole}
 use Rattle.std.proofs.lemmas.List.{at_drop_more, length-map, map_push, take_more}
 use Rattle.std.proofs.lemmas.Bool.{and_from, and_right, cases_lt, eq-eqb, le-leb, or_from, or_parts}
 use Rattle.vectors.specs.Vectors.{Cells, holding, bit_at, cell_of, cell_at, start, InForm}
-use Rattle.vectors.specs.Rows.{character_of, is_character, all_characters, is_row, fixed_bit, level_bit, placed, printed}
+use Rattle.vectors.specs.Rows.{character_of, is_character, all_characters, is_row, fixed_bit, level_bit, printed}
 use Rattle.vectors.proofs.Bits.{bit_of_zero, bit_or_lem, bit_past, bit_shifted, bit_shifted_at, bit_shifted_below}
 use Rattle.vectors.proofs.Fillings.{start_more, same_cells}
 use Rattle.vectors.proofs.Forms.{same_from_cells}
@@ -41,6 +41,10 @@ pub same_from_print : (k : ℕ) (v w : Cells) → InForm k v → InForm k w → 
 same_from_print k v w f g e = same_from_cells k v w f g (sym (cells_for (start k v)) ∙ ap (map cell_for) e ∙ cells_for (start k w))
 
 -- ---- a cell placed at input j
+
+-- the vector with one cell more, at a free input
+abbrev pub placed : Cells → ℕ → Ternary → Cells
+placed v j t = holding (bit_or v.care (fixed_bit t * 2 ^ j)) (bit_or v.value (level_bit t * 2 ^ j))
 
 or_none : (x y : Bool) → y ≡ false → (x || y) ≡ x
 or_none true y h = refl

@@ -3,7 +3,7 @@ pub mod Allowed
 pub mod Vectors
 pub mod Views
 pub mod Rows
-pub mod Faults
+pub mod Refusals
 pub mod Freeing
 pub mod Merging
 pub mod Extending

@@ -2,8 +2,6 @@
 -- They can be merged unless some input is fixed to opposite bits.
 use Rattle.std.specs.Prelude.{◌≡◌, ℕ, Bool, true, ◌↔◌, List, ◌==◌, bit_and, bit_or, bit_xor}
 use Rattle.vectors.specs.Vectors.{Cells, Fills, bit_at, holding}
-use Rattle.vectors.specs.declared.merge_fault.MergeFault.{MergeFault}
-use Rattle.vectors.specs.declared.merge_fault.MergeFault.TheVariants.{OppositeBits}
 
 -- some input is fixed to opposite bits
 pub record Opposed (v w : Cells) : Type 0 where
@@ -12,7 +10,7 @@ pub record Opposed (v w : Cells) : Type 0 where
   pub fixed_in_other : bit_at w.care input ≡ true
   pub opposite : bit_at v.value input ≡ bit_at w.value input → ⊥
 
--- no input is: no bit stands in both care numbers and in one value alone
+-- whether no input is fixed to opposite bits: no bit stands in both care numbers and in just one of the values
 abbrev pub mergeable : Cells → Cells → Bool
 mergeable v w = bit_and (bit_and v.care w.care) (bit_xor v.value w.value) == 0
 
@@ -23,7 +21,3 @@ union v w = holding (bit_or v.care w.care) (bit_or v.value w.value)
 -- the settings that fill the merged vector are those that fill both
 abbrev pub FilledByBoth : Cells → Cells → Cells → Type 0
 FilledByBoth v w u = (k : ℕ) (bits : List Bool) → Fills k u bits ↔ (Fills k v bits × Fills k w bits)
-
--- the number that the refusal is reported by
-abbrev pub merge_refusal : MergeFault → ℕ
-merge_refusal OppositeBits = 18

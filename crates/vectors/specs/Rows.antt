@@ -1,8 +1,8 @@
 -- A row of cells as characters: one of `0`, `1` and `X` for each input, from input 0.
-use Rattle.std.specs.Prelude.{ℕ, ◌*◌, ◌^◌, Bool, true, ◌&&◌, ◌||◌, List, [], ◌∷◌, map, length, ◌==◌, bit_or, nat_le}
+use Rattle.std.specs.Prelude.{ℕ, Bool, true, ◌&&◌, ◌||◌, List, [], ◌∷◌, map, length, ◌==◌, nat_le}
 use Rattle.signal.specs.declared.ternary.Ternary.{Ternary}
 use Rattle.signal.specs.declared.ternary.Ternary.TheVariants.{Low, High, X}
-use Rattle.vectors.specs.Vectors.{Cells, holding, start}
+use Rattle.vectors.specs.Vectors.{Cells, start}
 
 -- the character of a cell
 abbrev pub character_of : Ternary → ℕ
@@ -26,17 +26,14 @@ is_row k bs = length bs == k && (nat_le k 32 && all_characters bs)
 abbrev pub printed : ℕ → Cells → List ℕ
 printed k v = map character_of (start k v)
 
--- 1 for a fixed cell, and the bit of a cell
+-- 1 for a fixed cell
 abbrev pub fixed_bit : Ternary → ℕ
 fixed_bit Low = 1
 fixed_bit High = 1
 fixed_bit X = 0
 
+-- the bit of a cell, 0 for a free one
 abbrev pub level_bit : Ternary → ℕ
 level_bit Low = 0
 level_bit High = 1
 level_bit X = 0
-
--- the vector with one cell more, at a free input
-abbrev pub placed : Cells → ℕ → Ternary → Cells
-placed v j t = holding (bit_or v.care (fixed_bit t * 2 ^ j)) (bit_or v.value (level_bit t * 2 ^ j))

@@ -1,6 +1,6 @@
 // Why two numbers are refused as a test vector, and the number that the refusal is reported by.
 ghost use Rattle.std.specs.Prelude.{◌≡◌};
-ghost use Rattle.vectors.specs.Faults.{vector_refusal};
+ghost use Rattle.vectors.specs.Refusals.{vector_refusal};
 
 #[derive(Clone, Copy)]
 pub enum VectorFault {

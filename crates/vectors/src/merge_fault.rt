@@ -1,6 +1,6 @@
 // Why two vectors cannot be merged, and the number that the refusal is reported by.
 ghost use Rattle.std.specs.Prelude.{◌≡◌};
-ghost use Rattle.vectors.specs.Merging.{merge_refusal};
+ghost use Rattle.vectors.specs.Refusals.{merge_refusal};
 
 #[derive(Clone, Copy)]
 pub enum MergeFault {

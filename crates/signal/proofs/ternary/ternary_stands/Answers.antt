@@ -1,5 +1,5 @@
 -- Both statements are lemmas on the three values.
-use Rattle.signal.specs.Unknowns.{ternary_gates_exact, unknown_where_both_are_made}
+use Rattle.signal.proofs.Exactness.{ternary_gates_exact, unknown_where_both_are_made}
 use Rattle.signal.proofs.ternary.ternary_stands.Goals as goal
 
 pub returns : goal.returns

@@ -8,11 +8,12 @@ use Rattle.card.specs.declared.function.Function.TheVariants.{Ida, And2, Or2, Xo
 use Rattle.card.specs.Netlists.{Netlist, pins_of}
 use Rattle.signal.specs.declared.line.Stuck.{Stuck}
 use Rattle.signal.specs.Operations.{Operations, bit_operations, differ}
-use Rattle.signal.specs.Laws.{Kept}
+use Rattle.signal.specs.Laws.{Definite, Kept, Only, Sound}
+use Rattle.signal.specs.GateLaws.{GateLaws}
 use Rattle.signal.specs.Gates.{folded, joined, truth}
 use Rattle.signal.specs.Walks.{unless_stuck, pin_values, gate_net, walked, entered, net_values, sticks_pin, sticks_net, level_of}
 use Rattle.signal.specs.Lists.{Everywhere, Carries}
-use Rattle.signal.specs.Places.{everywhere_read, everywhere_push}
+use Rattle.signal.proofs.Places.{everywhere_read, everywhere_push}
 
 module _ {S : Type 0} (R : S → Bool → Type 0) (op : S → S → S) (f : Bool → Bool → Bool)
     (k : (x y : S) (p q : Bool) → R x p → R y q → R (op x y) (f p q)) where
@@ -40,6 +41,10 @@ module _ {S : Type 0} (o : Operations S) (R : S → Bool → Type 0) (k : Kept o
   truth_kept Xnor2 xs bs a = k.negated _ _ (joined_kept R o.unlike differ k.unlike (o.constant false) false (k.constant false) xs bs a)
   truth_kept Zero xs bs a = k.constant false
   truth_kept One xs bs a = k.constant true
+
+-- a kind's laws, taken from its operations to its gates
+pub gate_laws : {S : Type 0} (o : Operations S) (allows : S → Bool → Type 0) → Sound o allows → Definite o allows → GateLaws o allows
+gate_laws o allows sound definite = record { sound = truth_kept o allows sound; definite = truth_kept o (Only allows) definite }
 
 module _ {S : Type 0} (o : Operations S) (R : S → Bool → Type 0) (k : Kept o R) (t : Option Stuck) where
   unless_kept : (b : Bool) (x : S) (p : Bool) → R x p → R (unless_stuck o t b x) (unless_stuck bit_operations t b p)
