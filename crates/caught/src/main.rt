@@ -12,8 +12,9 @@ use vectors::vector::Vector;
 
 // The numbers of the faults that the vector catches, rising.
 fn caught_by(heap: Global, model: &FaultModel, vector: &Vector) -> Result<Vec<usize>, AllocError> {
+    let response = model.response(vector);
     (0..model.fault_count())
-        .filter(|fault| model.catches(*fault, vector))
+        .filter(|fault| response.catches(*fault))
         .collect(heap)
 }
 

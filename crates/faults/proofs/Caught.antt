@@ -1,6 +1,6 @@
 -- A catch at an output is shown there by every filling; where no cell is free, a showing is a catch.
-use Rattle.std.proofs.Common.{◌≡◌, ℕ, zero, suc, ◌/◌, ◌%◌, ◌<◌, ◌≤◌, Bool, true, false, not, ◌||◌, eqb, List, [], ◌∷◌, length, get_or, take, Some, None, Ok, Err, is_ok, ltb, Decides, MatchResult, Option, Result, sym, refl, ap, ◌∙◌, subst, ap₂, ⊎_elim, arith}
-use Rattle.std.proofs.lemmas.List.{get_or_default}
+use Rattle.std.proofs.Common.{◌≡◌, ℕ, zero, suc, ◌/◌, ◌%◌, ◌<◌, ◌≤◌, Bool, true, false, not, ◌||◌, ◌≢◌, eqb, List, [], ◌∷◌, length, get_or, take, Some, None, Ok, Err, is_ok, ltb, Decides, Option, Result, sym, refl, ap, ◌∙◌, subst, ap₂, ⊎_elim, arith}
+use Rattle.std.proofs.lemmas.List.{get_or_default, get_or_past}
 use Rattle.std.proofs.lemmas.Bool.{false≢true, ltb-false, or_cases, or_left, or_right, true≢false}
 use Rattle.card.specs.Netlists.{Lawful, Netlist, all_below, nets}
 use Rattle.signal.specs.declared.line.Stuck.{Stuck}
@@ -10,21 +10,21 @@ use Rattle.signal.specs.Laws.{Only}
 use Rattle.signal.specs.Lists.{Everywhere}
 use Rattle.signal.specs.Operations.{bit_operations}
 use Rattle.signal.specs.Ternaries.{Allows, ternary_operations}
-use Rattle.signal.specs.Walks.{net_values}
+use Rattle.signal.specs.Walks.{net_of, net_values}
 use Rattle.card.proofs.Below.{below_head, below_tail}
 use Rattle.signal.proofs.Below.{entry_read, output_below}
 use Rattle.signal.specs.Exactly.{exact_definite}
-use Rattle.signal.specs.Keeping.{net_values_kept}
-use Rattle.signal.specs.Places.{everywhere_at, everywhere_from, everywhere_read}
+use Rattle.signal.proofs.Keeping.{net_values_kept}
+use Rattle.signal.proofs.Places.{everywhere_at, everywhere_from, everywhere_read}
 use Rattle.signal.specs.Unknowns.{ternary_exact, ternary_sound}
+use Rattle.signal.proofs.Begun.{every_net_keeps}
 use Rattle.signal.proofs.Walked.{length_net_values}
 use Rattle.vectors.specs.Vectors.{Cells, Fills, bit_at, cell_of, start}
 use Rattle.vectors.proofs.Fillings.{cells_at, filled_by_the_allowed, length_cells}
-use Rattle.faults.specs.Catching.{AllFixed, ShownByEveryFilling, catches, catches_fault, caught_at, caught_if, opposite, opposite_at, opposite_somewhere, ternary_nets}
+use Rattle.faults.specs.Catching.{AllFixed, ShownByEveryFilling, catches, catches_fault, caught_at, caught_if, opposite, opposite_at, opposite_somewhere, same, ternary_nets}
 use Rattle.faults.specs.Showing.{Shows, ShowsAt, output_bit, output_net}
 use Rattle.faults.specs.Sites.{fault_count, stuck_at, stuck_of}
 use Rattle.faults.specs.declared.refusal.FaultRefusal.{FaultRefusal}
-use Rattle.faults.specs.declared.refusal.FaultRefusal.TheVariants.{NoSuchFault}
 use Rattle.faults.proofs.Sited.{no_line_past}
 
 -- ---- some net of a list
@@ -140,25 +140,79 @@ fixed_catches c s v bits r a f = (
   λ d. shows_caught c s v bits r a f d,
 )
 
--- what the code compares: arrays that begin with the nets of the two walks, from arrays that begin with the cells
-pub catches_read : (c : Netlist) (s : Stuck) (v : Cells) (xs ys starts begins : List Ternary) (os : List ℕ) (r : Bool) → Lawful c → os ≡ c.outputs → starts ≡ start c.inputs v → begins ≡ start c.inputs v
-    → take (nets c) xs ≡ net_values ternary_operations None c starts → take (nets c) ys ≡ net_values ternary_operations (Some s) c begins → r ≡ opposite_somewhere xs ys os → r ≡ catches c s v
-catches_read c s v xs ys starts begins os r l e p q x y t =
-    t ∙ ap (opposite_somewhere xs ys) e
-    ∙ somewhere_read (nets c) xs ys (ternary_nets c None v) (ternary_nets c (Some s) v) c.outputs l.outputs_declared
-    (x ∙ ap (net_values ternary_operations None c) p) (y ∙ ap (net_values ternary_operations (Some s) c) q)
+-- arrays that begin with the nets of the good and of the faulty card
+pub catches_read : (c : Netlist) (s : Stuck) (v : Cells) (xs ys : List Ternary) (os : List ℕ) (r : Bool) → Lawful c → os ≡ c.outputs
+    → take (nets c) xs ≡ ternary_nets c None v → take (nets c) ys ≡ ternary_nets c (Some s) v → r ≡ opposite_somewhere xs ys os → r ≡ catches c s v
+catches_read c s v xs ys os r l e x y t = t ∙ ap (opposite_somewhere xs ys) e ∙ somewhere_read (nets c) xs ys (ternary_nets c None v) (ternary_nets c (Some s) v) c.outputs l.outputs_declared x y
+
+-- ---- a fault that changes no net
+
+same_opposite : (x : Ternary) → opposite x x ≡ false
+same_opposite Low = refl
+same_opposite High = refl
+same_opposite X = refl
+
+none_opposite : (xs : List Ternary) (os : List ℕ) → opposite_somewhere xs xs os ≡ false
+none_opposite xs [] = refl
+none_opposite xs (o ∷ os) = ap₂ ◌||◌ (same_opposite (get_or xs o X)) (none_opposite xs os)
+
+pub unchanged_uncaught : (c : Netlist) (s : Stuck) (v : Cells) → ternary_nets c (Some s) v ≡ ternary_nets c None v → catches c s v ≡ false
+unchanged_uncaught c s v e = ap (λ (ys : List Ternary). opposite_somewhere (ternary_nets c None v) ys c.outputs) e ∙ none_opposite (ternary_nets c None v) c.outputs
+
+not_true : (b : Bool) → (b ≡ true → ⊥) → b ≡ false
+not_true true h = absurd (h refl)
+not_true false h = refl
+
+-- where no net changes the answer is no
+pub unexcited_uncaught : (c : Netlist) (s : Stuck) (v : Cells) (changes : Bool) → Decides changes (ternary_nets c (Some s) v ≢ ternary_nets c None v) → changes ≡ false → changes ≡ catches c s v
+unexcited_uncaught c s v changes d e = e ∙ sym (not_true (catches c s v) (λ t. false≢true (sym e ∙ d.1 (λ q. false≢true (sym (unchanged_uncaught c s v q) ∙ t)))))
+
+-- a line of a net that the card does not have changes none
+pub no_net_no_change : (c : Netlist) (s : Stuck) (v : Cells) → Lawful c → nets c ≤ net_of s.line → ternary_nets c (Some s) v ≡ ternary_nets c None v
+no_net_no_change c s v l h =
+    let n = net_of s.line in
+    let cells = start c.inputs v in
+    let fits = length_cells v 0 c.inputs in
+    let past : (t : Option Stuck) → get_or (ternary_nets c t v) n X ≡ X = λ t. get_or_past (ternary_nets c t v) n X (let e = length_net_values ternary_operations t c cells fits in omega (arith, e, h)) in
+    every_net_keeps ternary_operations s c cells fits l X (past (Some s) ∙ sym (past None))
+
+differ_decides : (x y : Ternary) → Decides (not (same x y)) (y ≢ x)
+differ_decides Low Low = (λ e q. false≢true e, λ q. absurd (q refl))
+differ_decides Low High = (λ e q. false≢true (ap (same Low) q), λ q. refl)
+differ_decides Low X = (λ e q. false≢true (ap (same Low) q), λ q. refl)
+differ_decides High Low = (λ e q. false≢true (ap (same High) q), λ q. refl)
+differ_decides High High = (λ e q. false≢true e, λ q. absurd (q refl))
+differ_decides High X = (λ e q. false≢true (ap (same High) q), λ q. refl)
+differ_decides X Low = (λ e q. false≢true (ap (same X) q), λ q. refl)
+differ_decides X High = (λ e q. false≢true (ap (same X) q), λ q. refl)
+differ_decides X X = (λ e q. false≢true e, λ q. absurd (q refl))
+
+-- the line's net has this value where the line sticks: the nets change exactly if it is another than what is read of the good card
+pub changes_at_the_line : (c : Netlist) (s : Stuck) (v : Cells) (xs : List Ternary) (value d : Ternary) (k n : ℕ) (differs : Bool) → Lawful c → take (nets c) xs ≡ ternary_nets c None v → k ≡ net_of s.line → k < nets c
+    → ((e : Ternary) → value ≡ get_or (ternary_nets c (Some s) v) (net_of s.line) e) → k < n → length xs ≡ n → differs ≡ not (same (get_or xs k d) value) → Decides differs (ternary_nets c (Some s) v ≢ ternary_nets c None v)
+changes_at_the_line c s v xs value d k n differs l e at h is w m t =
+    let good = ternary_nets c None v in
+    let faulty = ternary_nets c (Some s) v in
+    let there : value ≡ get_or faulty k X = is X ∙ ap (λ (j : ℕ). get_or faulty j X) (sym at) in
+    let read : get_or xs k d ≡ get_or good k X = get_or_default xs k d X (omega (arith, w, m)) ∙ entry_read (nets c) xs good k X h e in
+    let told : Decides differs (value ≢ get_or xs k d) = subst (λ (b : Bool). Decides b (value ≢ get_or xs k d)) (sym t) (differ_decides (get_or xs k d) value) in
+    let line : get_or faulty k X ≡ get_or good k X → get_or faulty (net_of s.line) X ≡ get_or good (net_of s.line) X = λ q. subst (λ (j : ℕ). get_or faulty j X ≡ get_or good j X) at q in (
+      λ yes q. told.0 yes (there ∙ ap (λ (ys : List Ternary). get_or ys k X) q ∙ sym read),
+      λ q. told.1 (λ r. q (every_net_keeps ternary_operations s c (start c.inputs v) (length_cells v 0 c.inputs) l X (line (sym there ∙ r ∙ read)))),
+    )
 
 -- ---- by a fault's number
 
 no_fault_past : (c : Netlist) (f : ℕ) → fault_count c ≤ f → stuck_of c f ≡ None
 no_fault_past c f h = ap (stuck_at (eqb (f % 2) 1)) (no_line_past c (f / 2) (omega (arith, h)))
 
-caught_by_line : (c : Netlist) (f : ℕ) (v : Cells) (t : Option Stuck) (b : Bool) → stuck_of c f ≡ t → b ≡ caught_if c t v → b ≡ catches_fault c f v
+-- what is asked of the line of a fault that the card has
+pub caught_by_line : (c : Netlist) (f : ℕ) (v : Cells) (s : Stuck) (b : Bool) → stuck_of c f ≡ Some s → b ≡ catches c s v → b ≡ catches_fault c f v
 unfolding catches_fault
-caught_by_line c f v t b is e = e ∙ ap (λ (u : Option Stuck). caught_if c u v) (sym is)
+caught_by_line c f v s b is e = e ∙ ap (λ (u : Option Stuck). caught_if c u v) (sym is)
 
--- what is asked of the line of a fault that the card has, and false of any other
-pub caught_by_number : (c : Netlist) (f : ℕ) (v : Cells) (line : Result Stuck FaultRefusal) (Asked : Stuck → Type 0) (b : Bool) → ((s : Stuck) → Asked s → b ≡ catches c s v)
-    → is_ok line ≡ ltb f (fault_count c) → MatchResult line (λ s. stuck_of c f ≡ Some s) (λ e. e ≡ NoSuchFault) → MatchResult line Asked (λ _. b ≡ false) → b ≡ catches_fault c f v
-caught_by_number c f v (Ok s) Asked b asks has is said = caught_by_line c f v (Some s) b is (asks s said)
-caught_by_number c f v (Err e) Asked b asks has is said = caught_by_line c f v None b (no_fault_past c f (ltb-false f (fault_count c) (sym has))) said
+-- and no of any other
+pub caught_by_none : (c : Netlist) (f : ℕ) (v : Cells) (line : Result Stuck FaultRefusal) → ((s : Stuck) → line ≡ Ok s → ⊥) → is_ok line ≡ ltb f (fault_count c) → false ≡ catches_fault c f v
+unfolding catches_fault
+caught_by_none c f v (Ok s) h has = absurd (h s refl)
+caught_by_none c f v (Err e) h has = sym (ap (λ (u : Option Stuck). caught_if c u v) (no_fault_past c f (ltb-false f (fault_count c) (sym has))))

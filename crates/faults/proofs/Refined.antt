@@ -14,7 +14,7 @@ use Rattle.signal.specs.Lists.{Everywhere}
 use Rattle.signal.specs.Operations.{Operations}
 use Rattle.signal.specs.Ternaries.{Allows, has, ternary_operations}
 use Rattle.signal.specs.Walks.{entered, gate_net, net_values, pin_values, sticks_net, sticks_pin, unless_stuck, walked}
-use Rattle.signal.specs.Places.{everywhere_push, everywhere_read}
+use Rattle.signal.proofs.Places.{everywhere_push, everywhere_read}
 use Rattle.signal.specs.Unknowns.{ternary_exact}
 use Rattle.vectors.specs.Extending.{Extends}
 use Rattle.vectors.specs.Vectors.{Cells, bit_at, cell_of, cells_from, start}

@@ -1,6 +1,6 @@
 -- What it is for a vector to catch a fault: with three values, good and faulty card have opposite definite bits at an output.
 -- X against 0 or 1 is no difference.
-use Rattle.std.specs.Prelude.{◌≡◌, ℕ, ◌<◌, Bool, true, false, List, Some, None, Option, slice_index_or}
+use Rattle.std.specs.Prelude.{◌≡◌, ℕ, ◌<◌, Bool, true, false, List, length, Some, None, Option, slice_index_or}
 use Rattle.std.specs.List.{list_any}
 use Rattle.card.specs.Netlists.{Netlist}
 use Rattle.signal.specs.declared.line.Stuck.{Stuck}
@@ -22,6 +22,18 @@ opposite High High = false
 opposite High X = false
 opposite X y = false
 
+-- the two are one value
+abbrev pub same : Ternary → Ternary → Bool
+same Low Low = true
+same Low High = false
+same Low X = false
+same High Low = false
+same High High = true
+same High X = false
+same X Low = false
+same X High = false
+same X X = true
+
 -- the three values of every net, from the cells of a vector, of the card with this line stuck, or of the good card
 abbrev pub ternary_nets : Netlist → Option Stuck → Cells → List Ternary
 ternary_nets c t v = net_values ternary_operations t c (start c.inputs v)
@@ -34,7 +46,7 @@ opposite_at good faulty net = opposite (slice_index_or good net X) (slice_index_
 abbrev pub opposite_somewhere : List Ternary → List Ternary → List ℕ → Bool
 opposite_somewhere good faulty nets = list_any (opposite_at good faulty) nets
 
--- the vector catches the fault at output i
+-- the vector catches the fault at output i (asked of outputs that the card has)
 abbrev pub caught_at : Netlist → Stuck → Cells → ℕ → Bool
 caught_at c s v i = opposite_at (ternary_nets c None v) (ternary_nets c (Some s) v) (output_net c i)
 
@@ -54,6 +66,10 @@ catches_fault c f x = caught_if c (stuck_of c f) x
 pub record ShownByEveryFilling (c : Netlist) (s : Stuck) (v : Cells) : Type 0 where
   pub output : ℕ
   pub shown : (bits : List Bool) → Fills c.inputs v bits → ShowsAt c s bits output
+
+-- wherever the vector catches the fault, every filling shows it there
+abbrev pub ShownWhereCaught : Netlist → Stuck → Cells → Type 0
+ShownWhereCaught c s v = (i : ℕ) → i < length c.outputs → caught_at c s v i ≡ true → (bits : List Bool) → Fills c.inputs v bits → ShowsAt c s bits i
 
 -- every one of k inputs is fixed
 abbrev pub AllFixed : ℕ → Cells → Type 0

@@ -1,4 +1,4 @@
--- The readers of a netlist in one list, each with the line that it hangs on and the net that it reads.
+-- The readers of a netlist in one list, each with its own line, which pin of which gate, and the net that it reads.
 -- Every reader is a gate pin; another kind of reader would join by being put into `readers`.
 use Rattle.std.specs.Prelude.{ℕ, suc, Bool, List, [], ◌∷◌, ◌++◌, count_by, filter, ◌==◌, nat_le}
 use Rattle.card.specs.declared.gate.Gate.{Gate}

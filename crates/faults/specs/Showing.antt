@@ -6,7 +6,7 @@ use Rattle.signal.specs.declared.line.Stuck.{Stuck}
 use Rattle.signal.specs.Operations.{bit_operations}
 use Rattle.signal.specs.Walks.{net_values}
 
--- the net of output i
+-- the net of output i (asked of outputs that the card has)
 abbrev pub output_net : Netlist → ℕ → ℕ
 output_net c i = slice_index c.outputs i
 

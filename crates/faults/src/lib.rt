@@ -9,5 +9,6 @@ pub mod open;
 pub mod reader;
 mod readers;
 pub mod refusal;
+pub mod response;
 pub mod thinning;
 mod trial;

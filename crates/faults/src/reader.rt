@@ -1,4 +1,4 @@
-// A reader of a net: the line that it hangs on, and the net that it reads.
+// A reader of a net: its own line, and the net that it reads.
 // The readers are the pins of gates; the line says which pin of which gate.
 use signal::line::Line;
 
