@@ -2,7 +2,9 @@
 #![tactic(auto)]
 
 ghost use Rattle.std.specs.Prelude.{◌≡◌, ◌<◌, Bool, true, false, not, List, is_some, IfOk, Some, MatchOption, slice_index_or};
-ghost use Rattle.posing.specs.Differing.{differing};
+ghost use Rattle.solving.specs.Answers.{Answers};
+ghost use Rattle.solving.specs.declared.verdict.Solved.{Solved as SolvedAs};
+ghost use Rattle.posing.specs.Differing.{bits_in, differing};
 
 use solvers::{Backtracking, Counting};
 use solving::{Solver, Verdict};
@@ -29,6 +31,8 @@ fn read<S: Solver>(solver: &S) -> Option<(bool, bool)>
 // Two bits that differ; none only if the budget is below 6.
 pub fn differ<S: Solver>(solver: &mut S, budget: u64) -> Option<(bool, bool)>
     ensures differ_or_the_budget_is_small { MatchOption result (budget < 6) (λ p. p.0 ≡ not p.1) }
+    ensures the_solver_was_asked_the_formula { (solved : SolvedAs) × Answers differing budget solved (S.Solver.model solver.new) }
+    ensures are_the_bits_that_the_solver_found { result ≡ bits_in (S.Solver.model solver.new).reading }
 {
     pose(solver);
     match solver.solve(budget).verdict {
@@ -42,6 +46,8 @@ pub fn differ<S: Solver>(solver: &mut S, budget: u64) -> Option<(bool, bool)>
 pub fn settle<S: Solver>(solver: &mut S) -> Option<(bool, bool)>
     ensures settles { is_some result ≡ true }
     ensures differ { MatchOption result ⊥ (λ p. p.0 ≡ not p.1) }
+    ensures the_solver_was_asked_the_formula { (solved : SolvedAs) × Answers differing 6 solved (S.Solver.model solver.new) }
+    ensures are_the_bits_that_the_solver_found { result ≡ bits_in (S.Solver.model solver.new).reading }
 {
     differ(solver, 6)
 }

@@ -17,7 +17,8 @@ use Rattle.propagation.specs.Scanning.{foremost, clauses_from}
 use Rattle.propagation.specs.Occurrences.{key, against, last_before, start_of, nowhere, Listed}
 use Rattle.propagation.specs.declared.occurrence.Occurrence.{Occurrence}
 use Rattle.propagation.specs.Trails.{Grown}
-use Rattle.propagation.specs.Following.{AtRest, Met, Inside, Pending, Looked, Left, Visiting, Pressed, rests, breaks, forces}
+use Rattle.propagation.specs.Following.{AtRest, Met, Inside, Pending, Pressed, rests, breaks, forces}
+use Rattle.propagation.proofs.Visits.{Looked, Left, Visiting}
 use Rattle.propagation.proofs.Weighed.{rest_made}
 use Rattle.propagation.proofs.Trailing.{grown_more, grown_longer}
 use Rattle.propagation.proofs.Reached.{reach_more}

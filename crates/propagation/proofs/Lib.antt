@@ -1,3 +1,5 @@
+pub mod Parts
+pub mod Visits
 pub mod Scanned
 pub mod Weighed
 pub mod Lasts

@@ -6,7 +6,8 @@ use Rattle.solving.specs.declared.state.State.TheVariants.{Broken as broken, Lon
 use Rattle.solving.specs.States.{joined, state_of}
 use Rattle.solving.specs.Literals.{place}
 use Rattle.solving.specs.Closing.{or_unit, or_broken, first_unit, violated}
-use Rattle.propagation.specs.Scanning.{Scan, or_later, foremost, clauses_from, Ends, combined}
+use Rattle.propagation.specs.Scanning.{Scan, or_later, foremost, clauses_from, Ends}
+use Rattle.propagation.proofs.Parts.{combined}
 use Rattle.solving.proofs.Closed.{first_open, value_open, made_fewer}
 
 pub combined_joined : (s : State) (o : Option Bool) (l : ℤ) (r : State) → combined s (joined o l r) ≡ combined (joined o l s) r

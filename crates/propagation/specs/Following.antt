@@ -1,11 +1,11 @@
 -- What unit propagation keeps: a clause that is not at rest has the negation of a literal that is still to be followed up.
-use Rattle.std.specs.Prelude.{◌≡◌, ℕ, ◌+◌, ◌-◌, ◌<◌, ◌≤◌, Bool, true, false, not, ◌⊎◌, List, [], ◌∷◌, ◌++◌, length, ℤ, pos, Some, slice_index_or}
+use Rattle.std.specs.Prelude.{◌≡◌, ℕ, ◌<◌, Bool, true, false, not, ◌⊎◌, List, [], ◌∷◌, ◌++◌, length, ℤ, pos, Some, slice_index_or}
 use Rattle.solving.specs.Literals.{place}
 use Rattle.solving.specs.Settings.{Setting, value, made}
 use Rattle.solving.specs.declared.state.State.TheVariants.{Broken as broken, Lone as unit, Other as other}
 use Rattle.solving.specs.States.{state_of}
 use Rattle.solving.specs.Closing.{violated, closure}
-use Rattle.propagation.specs.Occurrences.{key, against, start_of}
+use Rattle.propagation.specs.Occurrences.{key, against}
 
 -- neither false throughout nor unit
 abbrev pub AtRest : Setting → List ℤ → Type 0
@@ -27,25 +27,6 @@ Inside v front = (i : ℕ) → i < length front → (place (slice_index_or front
 pub record Pending (cs : List (List ℤ)) (v : Setting) (front : List ℤ) : Type 0 where
   pub inside : Inside v front
   pub met : (c : ℕ) → c < length cs → AtRest v (slice_index_or cs c []) ⊎ Met (slice_index_or cs c []) front
-
--- the same for the first n clauses, while they are looked at for the first time
-pub record Looked (cs : List (List ℤ)) (n : ℕ) (v : Setting) (front : List ℤ) : Type 0 where
-  pub inside : Inside v front
-  pub met : (c : ℕ) → c < n → c < length cs → AtRest v (slice_index_or cs c []) ⊎ Met (slice_index_or cs c []) front
-
--- the literal of number k stands in clause c at a place that is still to be visited
-pub record Left (cs : List (List ℤ)) (ends : List ℕ) (c k below : ℕ) : Type 0 where
-  pub at : ℕ
-  pub inside : at < length (slice_index_or cs c [])
-  pub same : key (slice_index_or (slice_index_or cs c []) at (pos 0)) ≡ k
-  pub under : start_of ends c + at < below
-
--- in the middle of following up one literal, whose negation has the number k
-pub record Visiting (cs : List (List ℤ)) (row : List ℤ) (ends : List ℕ) (k below : ℕ) (v : Setting) (front : List ℤ) : Type 0 where
-  pub inside : Inside v front
-  pub fails : (x : ℤ) → key x ≡ k → value v x ≡ Some false
-  pub stands : 0 < below → (below ≤ length row) × (key (slice_index_or row (below - 1) (pos 0)) ≡ k)
-  pub met : (c : ℕ) → c < length cs → AtRest v (slice_index_or cs c []) ⊎ (Met (slice_index_or cs c []) front ⊎ Left cs ends c k below)
 
 -- a run of closure from a that came to b: r says that nothing is violated
 pub record Closes (cs : List (List ℤ)) (a b : Setting) (r : Bool) : Type 0 where

@@ -41,11 +41,3 @@ Ends_prop row from (e ∷ ends) = ×_prop le_prop (Ends_prop row e ends)
 abbrev pub ends_well : ℕ → ℕ → List ℕ → Bool
 ends_well n from [] = from == n
 ends_well n from (e ∷ ends) = nat_le from e && ends_well n e ends
-
--- what a part of a clause comes to together with what follows it
-abbrev pub combined : State → State → State
-combined broken s = s
-combined (unit l) broken = unit l
-combined (unit l) (unit m) = other
-combined (unit l) other = other
-combined other s = other

@@ -63,6 +63,7 @@ impl Assignment<'_> {
         ensures broken { OnErr result (violated self.new.values.now (clauses_of clauses.entry) ≡ true) }
         ensures pending { OnOk result (Pending (clauses_of clauses.entry) self.new.values.now (drop self.old.trail.len (held self.new.trail))) }
         ensures grown { Grown self.old.values.now self.new.values.now (held self.old.trail) (held self.new.trail) }
+        ensures keeps_its_room { room self.new.trail ≡ room self.old.trail }
     {
         begin(clauses, self.values, &mut self.trail)
     }
@@ -71,6 +72,7 @@ impl Assignment<'_> {
     pub fn close(&mut self, clauses: Clauses) -> Result<(), Conflict>
         ensures closes { Closes (clauses_of clauses.entry) self.old.values.now self.new.values.now (is_ok result) }
         ensures grown { Grown self.old.values.now self.new.values.now (held self.old.trail) (held self.new.trail) }
+        ensures keeps_its_room { room self.new.trail ≡ room self.old.trail }
     {
         close(clauses, self.values, &mut self.trail)
     }

@@ -80,6 +80,7 @@ impl Assignment<'_> {
         ensures reached { Reaches (clauses_of clauses.entry) self.old.values.now self.new.values.now }
         ensures broken { OnErr result (violated self.new.values.now (clauses_of clauses.entry) ≡ true) }
         ensures grown { Grown self.old.values.now self.new.values.now (held self.old.trail) (held self.new.trail) }
+        ensures keeps_its_room { room self.new.trail ≡ room self.old.trail }
     {
         follow(clauses, self.values, &mut self.trail, from)
     }

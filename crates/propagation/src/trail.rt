@@ -30,6 +30,7 @@ impl<'a> Assignment<'a> {
     pub fn make(&mut self, literal: i16)
         requires is_open { at self.old.values.now (place literal) ≡ None }
         ensures makes_it_true { assigned self.new ≡ making (assigned self.old) literal }
+        ensures keeps_its_room { room self.new.trail ≡ room self.old.trail }
     {
         make(self.values, &mut self.trail, literal);
     }
@@ -38,6 +39,7 @@ impl<'a> Assignment<'a> {
     fn undo(&mut self)
         requires some { 0 < self.old.trail.len }
         ensures opens_the_latest { Undone (assigned self.old) (assigned self.new) }
+        ensures keeps_its_room { room self.new.trail ≡ room self.old.trail }
     {
         if let Some(literal) = self.trail.pop() {
             let j = place_of(literal);
@@ -51,6 +53,7 @@ impl<'a> Assignment<'a> {
     // Back to where the trail was `to` long; it stays where it is no longer than that.
     pub fn unwind(&mut self, to: usize)
         ensures opens_what_came_later { assigned self.new ≡ unwound (assigned self.old) to }
+        ensures keeps_its_room { room self.new.trail ≡ room self.old.trail }
     {
         // By hand: the trail shrinks while it is walked.
         while self.trail.len() > to {

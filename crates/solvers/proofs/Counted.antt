@@ -5,7 +5,7 @@ use Rattle.solving.specs.Closing.{violated, closure}
 use Rattle.solving.specs.Leading.{leads}
 use Rattle.solving.specs.Trials.{Answer, found, none, undecided, while, step, or_else}
 use Rattle.solving.specs.Backtracking.{lowest_open, to_zero}
-use Rattle.solving.specs.Counting.{settings, if_set, if_whole, tried, try_each}
+use Rattle.solving.specs.Counting.{settings, if_set, unless_violated, tried, try_each}
 use Rattle.solving.specs.declared.verdict.Verdict.{Verdict}
 use Rattle.solving.specs.declared.verdict.Verdict.TheVariants.{Found, None as Unsatisfiable, Undecided}
 use Rattle.solving.proofs.Places.{open_some, open_inside}
@@ -17,10 +17,10 @@ use Rattle.solvers.proofs.Numbered.{settings_from}
 
 module _ (cs : List (List ℤ)) (v : ℕ) (bs : List Bool) (a b : Setting) (start : a ≡ leads v bs) where
   whole_tried : (s : ℕ) → violated (closure cs a) cs ≡ false → tried cs v bs s ≡ if_set (eqb (open_in v (closure cs a)) 0) (closure cs a) s
-  whole_tried s w = sym (ap (λ (x : Setting). if_whole (violated (closure cs x) cs) v (closure cs x) s) start) ∙ ap (λ x. if_whole x v (closure cs a) s) w
+  whole_tried s w = sym (ap (λ (x : Setting). unless_violated (violated (closure cs x) cs) v (closure cs x) s) start) ∙ ap (λ x. unless_violated x v (closure cs a) s) w
 
   pub tried_violated : (s : ℕ) → violated (closure cs a) cs ≡ true → tried cs v bs s ≡ none s
-  tried_violated s w = sym (ap (λ (x : Setting). if_whole (violated (closure cs x) cs) v (closure cs x) s) start) ∙ ap (λ x. if_whole x v (closure cs a) s) w
+  tried_violated s w = sym (ap (λ (x : Setting). unless_violated (violated (closure cs x) cs) v (closure cs x) s) start) ∙ ap (λ x. unless_violated x v (closure cs a) s) w
 
   pub tried_found : (s : ℕ) → violated (closure cs a) cs ≡ false → b ≡ closure cs a → length b ≡ v → lowest_open b ≡ None → tried cs v bs s ≡ found b s
   tried_found s w e l o =

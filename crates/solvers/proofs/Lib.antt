@@ -1,3 +1,6 @@
+pub mod Resuming
+pub mod Trails
+pub mod Looping
 pub mod Resumed
 pub mod Trailing
 pub mod Looped

@@ -6,12 +6,12 @@ use Rattle.solving.specs.Literals.{place, wants}
 use Rattle.solving.specs.Closing.{closure, violated, first_unit}
 use Rattle.solving.specs.Trials.{found, none, undecided}
 use Rattle.solving.specs.Backtracking.{backtracking, lowest, lowest_open, to_zero}
-use Rattle.solvers.specs.Resuming.{Frame, turned, deep, resume}
+use Rattle.solvers.proofs.Resuming.{Frame, turned, deep, resume}
 use Rattle.propagation.specs.Trails.{unmade_all, Grown}
 use Rattle.propagation.specs.Following.{Pending}
-use Rattle.solvers.specs.Trails.{frame_at, frames_of, Rising}
-use Rattle.solvers.specs.Looping.{OpenFrames, ClosedFrames, Kept}
-use Rattle.solving.proofs.Places.{open_falls, open_inside}
+use Rattle.solvers.proofs.Trails.{frame_at, frames_of, Rising}
+use Rattle.solvers.proofs.Looping.{OpenFrames, ClosedFrames, Kept}
+use Rattle.solving.proofs.Places.{open_inside}
 use Rattle.solving.proofs.Costs.{lowest_law}
 use Rattle.solvers.proofs.Resumed.{turns}
 use Rattle.solving.proofs.Closures.{rests}

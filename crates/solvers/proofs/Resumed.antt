@@ -6,7 +6,7 @@ use Rattle.solving.specs.Closing.{violated, closure}
 use Rattle.solving.specs.Trials.{Answer, found, none, undecided, while, step, or_else}
 use Rattle.solving.specs.Backtracking.{Rule, Choice, descend, level, chosen, both, unless_broken}
 use Rattle.solving.specs.SearchLaws.{Picks}
-use Rattle.solvers.specs.Resuming.{deep, Frame, turned, back, resume, Turns}
+use Rattle.solvers.proofs.Resuming.{deep, Frame, turned, back, resume, Turns}
 use Rattle.solving.proofs.Places.{open_le, open_some, open_inside}
 use Rattle.solving.proofs.Closures.{closure_grows, closure_length}
 use Rattle.solving.proofs.Sounds.{fewer}

@@ -3,9 +3,9 @@ use Rattle.std.proofs.Common.{◌≡◌, ℕ, suc, ◌+◌, ◌<◌, ◌≤◌, 
 use Rattle.std.proofs.lemmas.List.{drop-append-le}
 use Rattle.solvers.specs.declared.decision.Decision.{Decision}
 use Rattle.solving.specs.Settings.{Setting}
-use Rattle.solvers.specs.Resuming.{Frame}
+use Rattle.solvers.proofs.Resuming.{Frame}
 use Rattle.propagation.specs.Trails.{unmade_all}
-use Rattle.solvers.specs.Trails.{frame_at, frames_of, Rising}
+use Rattle.solvers.proofs.Trails.{frame_at, frames_of, Rising}
 use Rattle.propagation.proofs.Trailing.{unmade_append}
 
 frame_grown : (b : Setting) (s more : List ℤ) (c : Decision) → c.at ≤ length s → frame_at b (s ++ more) c ≡ frame_at (unmade_all b more) s c

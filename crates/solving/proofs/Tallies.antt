@@ -6,7 +6,7 @@ use Rattle.solving.specs.Settings.{Setting, open_in}
 use Rattle.solving.specs.Closing.{closure, violated}
 use Rattle.solving.specs.Leading.{leads, Led}
 use Rattle.solving.specs.Trials.{Answer, found, none, undecided, steps_of, while, step, or_else}
-use Rattle.solving.specs.Counting.{settings, if_set, if_whole, tried, try_each}
+use Rattle.solving.specs.Counting.{settings, if_set, unless_violated, tried, try_each}
 use Rattle.solving.proofs.Outcomes.{Read}
 use Rattle.solving.specs.SearchLaws.{Decided}
 use Rattle.solving.proofs.Closures.{closure_length, settles}
@@ -80,7 +80,7 @@ module _ (cs : List (List ℤ)) (v : ℕ) where
     set true e w = let z = eqb-true (open_in v b) 0 e in record { long = l; set = z; holds = settles cs b w (rw l z) }
     set false e w = tt
 
-    go : (x : Bool) → violated b cs ≡ x → Tried bs (if_whole x v b s)
+    go : (x : Bool) → violated b cs ≡ x → Tried bs (unless_violated x v b s)
     go true e = e
     go false e = set (eqb (open_in v b) 0) refl e
 
@@ -117,7 +117,7 @@ module _ (cs : List (List ℤ)) (v : ℕ) where
     set true b = refl
     set false b = refl
 
-    go : (x : Bool) → steps_of (if_whole x v (closure cs (leads v bs)) s) ≡ s
+    go : (x : Bool) → steps_of (unless_violated x v (closure cs (leads v bs)) s) ≡ s
     go true = refl
     go false = set (eqb (open_in v (closure cs (leads v bs))) 0) (closure cs (leads v bs))
 
@@ -147,7 +147,7 @@ module _ (cs : List (List ℤ)) (v : ℕ) where
     set true f z = omega arith
     set false f z = absurd (eqb-false (open_in v b) 0 f z)
 
-    go : (x : Bool) → violated b cs ≡ x → (violated b cs ≡ true) ⊎ (open_in v b ≡ 0) → Decided s (if_whole x v b s)
+    go : (x : Bool) → violated b cs ≡ x → (violated b cs ≡ true) ⊎ (open_in v b ≡ 0) → Decided s (unless_violated x v b s)
     go true f d = omega arith
     go false f (inl h) = absurd (true≢false (sym h ∙ f))
     go false f (inr h) = set (eqb (open_in v b) 0) refl h

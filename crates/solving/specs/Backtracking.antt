@@ -50,7 +50,7 @@ both budget deeper b s c = or_else (step budget s (deeper (slice_set b c.var (So
 abbrev pub level : Rule → List (List ℤ) → ℕ → (Setting → ℕ → Answer) → Setting → ℕ → Answer
 level rule cs budget deeper b s = unless_broken (violated b cs) s (λ _. chosen (rule b) b s (both budget deeper b s))
 
--- each level sets a variable, so there are no more levels than open variables
+-- each level sets a variable, so there are no more levels than open variables; without levels none is open, and the rule is not asked
 unfoldable pub descend : Rule → List (List ℤ) → ℕ → ℕ → Setting → ℕ → Answer
 descend rule cs budget zero a s = unless_broken (violated (closure cs a) cs) s (λ _. found (closure cs a) s)
 descend rule cs budget (suc n) a s = level rule cs budget (descend rule cs budget n) (closure cs a) s

@@ -15,13 +15,13 @@ abbrev pub if_set : Bool → Setting → ℕ → Answer
 if_set true b s = found b s
 if_set false b s = undecided s
 
-abbrev pub if_whole : Bool → ℕ → Setting → ℕ → Answer
-if_whole true v b s = none s
-if_whole false v b s = if_set (open_in v b == 0) b s
+abbrev pub unless_violated : Bool → ℕ → Setting → ℕ → Answer
+unless_violated true v b s = none s
+unless_violated false v b s = if_set (open_in v b == 0) b s
 
 -- what the closure of one leading setting comes to
 abbrev pub tried : List (List ℤ) → ℕ → List Bool → ℕ → Answer
-tried cs v bs s = if_whole (violated (closure cs (leads v bs)) cs) v (closure cs (leads v bs)) s
+tried cs v bs s = unless_violated (violated (closure cs (leads v bs)) cs) v (closure cs (leads v bs)) s
 
 unfoldable pub try_each : List (List ℤ) → ℕ → ℕ → List (List Bool) → ℕ → Answer
 try_each cs v budget [] s = none s

@@ -2,7 +2,7 @@
 -- A clause is a list of literals, a formula a list of clauses.
 use Rattle.std.specs.Prelude.{ℕ, zero, suc, pred, ◌+◌, Bool, true, false, ◌&&◌, List, [], ◌∷◌, length, ℤ, pos, negsuc, nat_lt}
 
--- variable j stands at place j - 1
+-- variable j stands at place j - 1 (the literal 0, which no solver takes, would stand at place 0)
 abbrev pub place : ℤ → ℕ
 place (pos n) = pred n
 place (negsuc n) = n

@@ -1,4 +1,4 @@
--- Closure in any order: unit clauses taken one after another, whichever comes first.
+-- Closure in any order: at each turn any unit clause of the list may be taken.
 use Rattle.std.specs.Prelude.{◌≡◌, true, false, List, ◌∷◌, ℤ, None}
 use Rattle.solving.specs.Settings.{Setting, made}
 use Rattle.solving.specs.States.{state_of, unit}

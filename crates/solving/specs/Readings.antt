@@ -1,4 +1,5 @@
 -- A reading gives each variable a bit. It satisfies a clause if it makes some literal of it true; an empty clause is false.
+-- A reading has a bit for each variable of the clauses that it is asked about; a variable past its end would count as 0.
 use Rattle.std.specs.Prelude.{◌≡◌, Bool, true, false, ◌&&◌, ◌||◌, List, [], ◌∷◌, ℤ, slice_index_or}
 use Rattle.std.specs.Bool.{beq}
 use Rattle.solving.specs.Literals.{place, wants}

@@ -27,6 +27,7 @@ started v k = cond (startable v k) (Ok tt) (Err Size)
 abbrev pub appended : Model → List ℤ → Result (Unit {0}) AppendFault
 appended m c = cond (all_in_range m.variables c) (cond (room_for m c) (Ok tt) (Err Places)) (Err Literal)
 
+-- (a reading that was found has a bit for each variable)
 abbrev pub bit_in : Option (List Bool) → ℕ → Result Bool ValueFault
 bit_in None j = Err Reading
 bit_in (Some r) j = Ok (slice_index_or r (j - 1) false)

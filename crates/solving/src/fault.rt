@@ -4,13 +4,13 @@ ghost use Rattle.solving.specs.Refusals.{start_number, append_number, value_numb
 
 #[derive(Clone, Copy)]
 pub enum StartFault {
-    // Not 1 ≤ k ≤ 32, or not k ≤ v ≤ 560.
+    // Not 1 ≤ leading ≤ 32, or not leading ≤ variables ≤ 560.
     Size = 19,
 }
 
 #[derive(Clone, Copy)]
 pub enum AppendFault {
-    // A literal is 0, or its variable is above v.
+    // A literal is 0, or its variable is above the number of variables.
     Literal = 20,
     // More than 9,216 places would be used.
     Places = 21,

@@ -15,7 +15,9 @@ pub fn closure_stands()
     ensures ends_the_same_in_any_order { AnyOrder }
 {}
 
-// Backtracking from any start by any rule: its answers are sound and within the budget, and a led formula is settled in time.
+// Backtracking by any rule that picks an open variable as long as there is one: from any start its answers are sound and within
+// the budget; from every variable open, and if it picks leading variables first, a led formula is settled in time.
+// The lowest open variable is such a rule, and with it backtracking keeps what every solver promises.
 pub fn backtracking_stands()
     ensures is_sound_and_within_budget { Backtracks }
     ensures settles_led_formulas { Settled }

@@ -6,6 +6,9 @@ ghost use Rattle.solving.specs.Models.{Model};
 ghost use Rattle.solving.specs.Answers.{Answers};
 ghost use Rattle.solving.specs.declared.verdict.Solved.{Solved as SolvedAs};
 
+mod plain;
+
+pub use plain::Plain;
 use solving::{Solved, Solver};
 
 pub trait Answering: Solver {

@@ -39,6 +39,7 @@ impl<'a> Assignment<'a> {
     pub fn clear(&mut self)
         ensures opens_every_variable { assigned self.new ≡ begun (replicate (length self.old.values.now) None) }
         ensures empties_the_trail { self.new.trail.len ≡ 0 }
+        ensures keeps_its_room { room self.new.trail ≡ room self.old.trail }
     {
         self.values.fill(None);
         self.trail.clear();
@@ -49,6 +50,7 @@ impl<'a> Assignment<'a> {
         requires is_a_variable { j < length self.old.values.now }
         ensures sets_the_variable { assigned self.new ≡ assuming (assigned self.old) j bit }
         ensures leaves_the_trail { self.new.trail.len ≡ self.old.trail.len }
+        ensures keeps_its_room { room self.new.trail ≡ room self.old.trail }
     {
         self.values[j] = Some(bit);
     }

@@ -4,7 +4,7 @@ use Rattle.solving.specs.Orders.{Reaches}
 use Rattle.propagation.specs.Stacks.{held, room}
 use Rattle.propagation.specs.Trails.{Grown}
 use Rattle.propagation.specs.Clauses.{clauses_of}
-use Rattle.propagation.specs.Following.{Looked}
+use Rattle.propagation.proofs.Visits.{Looked}
 use Rattle.propagation.proofs.close.begin.Given as goal
 
 abbrev pub invariant-loop-c : goal.invariant-loop-c

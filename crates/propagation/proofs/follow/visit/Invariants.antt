@@ -5,7 +5,7 @@ use Rattle.propagation.specs.Stacks.{held, room}
 use Rattle.propagation.specs.Trails.{Grown}
 use Rattle.propagation.specs.Occurrences.{against}
 use Rattle.propagation.specs.Clauses.{clauses_of}
-use Rattle.propagation.specs.Following.{Visiting}
+use Rattle.propagation.proofs.Visits.{Visiting}
 use Rattle.propagation.proofs.follow.visit.Given as goal
 
 abbrev pub invariant-loop-below : goal.invariant-loop-below

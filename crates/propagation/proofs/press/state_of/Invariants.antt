@@ -1,6 +1,6 @@
 use Rattle.std.proofs.Common.{◌≡◌, drop}
 use Rattle.solving.specs.States.{state_of}
-use Rattle.propagation.specs.Scanning.{combined}
+use Rattle.propagation.proofs.Parts.{combined}
 use Rattle.propagation.proofs.press.state_of.Given as goal
 
 abbrev pub invariant-loop-literal : goal.invariant-loop-literal

@@ -2,7 +2,8 @@ use Rattle.std.proofs.Common.{ℕ, ◌+◌, ◌-◌, ◌≤◌, length, get_or, 
 use Rattle.std.proofs.lemmas.Int.{to_z-of_z}
 use Rattle.solving.specs.declared.state.State.{State}
 use Rattle.solving.specs.States.{state_of, joined}
-use Rattle.propagation.specs.Scanning.{combined, or_later, foremost, clauses_from}
+use Rattle.propagation.specs.Scanning.{or_later, foremost, clauses_from}
+use Rattle.propagation.proofs.Parts.{combined}
 use Rattle.propagation.proofs.Scanned.{scan_more, scan_done, ends_le, ends_clause, scan_clause, scan_end}
 use Rattle.propagation.proofs.Rows.{ends_drop, clauses_drop}
 use Rattle.propagation.proofs.scan.scan.Goals as goal

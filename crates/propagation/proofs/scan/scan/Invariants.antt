@@ -1,6 +1,7 @@
 use Rattle.std.proofs.Common.{◌≡◌, drop}
 use Rattle.solving.specs.States.{state_of}
-use Rattle.propagation.specs.Scanning.{combined, foremost, clauses_from, Ends}
+use Rattle.propagation.specs.Scanning.{foremost, clauses_from, Ends}
+use Rattle.propagation.proofs.Parts.{combined}
 use Rattle.propagation.proofs.scan.scan.Given as goal
 
 abbrev pub invariant-loop-literal : goal.invariant-loop-literal

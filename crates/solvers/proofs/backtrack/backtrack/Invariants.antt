@@ -1,6 +1,6 @@
 use Rattle.std.proofs.Common.{◌≡◌, ◌-◌, ◌≤◌, drop}
 use Rattle.propagation.specs.Stacks.{held, room}
-use Rattle.solvers.specs.Looping.{Kept}
+use Rattle.solvers.proofs.Looping.{Kept}
 use Rattle.propagation.specs.Clauses.{clauses_of}
 use Rattle.propagation.specs.Following.{Pending}
 use Rattle.solvers.proofs.backtrack.backtrack.Given as goal

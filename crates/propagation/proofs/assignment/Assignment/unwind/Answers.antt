@@ -9,4 +9,4 @@ loop-self-preserved c =
     let s = c.loop-self.self.trail in
     let t = c.undo.new.self.trail in
     let n = length-take s.len s.entries.now in
-    undone_unwound (assigned c.loop-self.self) (assigned c.undo.new.self) c.args.to u (omega (arith, n, s.fits, length-append (take t.len t.entries.now) (u.latest ∷ []), ap length u.trail, c.loop-self-test.true, c.len.ensures.counts_the_entries)) ∙ c.loop-self.invariant
+    (undone_unwound (assigned c.loop-self.self) (assigned c.undo.new.self) c.args.to u (omega (arith, n, s.fits, length-append (take t.len t.entries.now) (u.latest ∷ []), ap length u.trail, c.loop-self-test.true, c.len.ensures.counts_the_entries)) ∙ c.loop-self.invariant.0, c.undo.ensures.keeps_its_room ∙ c.loop-self.invariant.1)

@@ -4,8 +4,8 @@ use Rattle.solving.specs.Settings.{Setting, at, open_in}
 use Rattle.solving.specs.Closing.{violated, first_unit}
 use Rattle.solving.specs.Backtracking.{backtracking, lowest}
 use Rattle.solvers.specs.declared.decision.Decision.{Decision}
-use Rattle.solvers.specs.Resuming.{Frame, deep, resume}
-use Rattle.solvers.specs.Trails.{frames_of, Rising}
+use Rattle.solvers.proofs.Resuming.{Frame, deep, resume}
+use Rattle.solvers.proofs.Trails.{frames_of, Rising}
 
 -- at each frame its variable is open
 abbrev pub OpenFrames : List Frame → Type 0

@@ -3,7 +3,7 @@ use Rattle.std.specs.Prelude.{ℕ, suc, ◌≤◌, false, List, [], ◌∷◌, m
 use Rattle.solving.specs.Settings.{Setting}
 use Rattle.propagation.specs.Trails.{unmade_all}
 use Rattle.solvers.specs.declared.decision.Decision.{Decision}
-use Rattle.solvers.specs.Resuming.{Frame}
+use Rattle.solvers.proofs.Resuming.{Frame}
 
 abbrev pub frame_at : Setting → List ℤ → Decision → Frame
 frame_at a t d = record { base = unmade_all a (drop d.at t); choice = record { var = d.var; bit = false } }
