@@ -59,10 +59,12 @@ module _ (c : Netlist) (s : Stuck) (lawful : Lawful c) where
       (λ j h. fixing_all bits j (omega (arith, is, h)))
       (record { one_for_each = is; agrees = λ j h t. (fixing_filled bits).agrees j (omega (arith, is, h)) t })
       shows in
-      let told : ShownByEveryFilling c s (thinned_setting c s r) = catch_shown c s (thinned_setting c s r) (thinned_catches c s (fixing bits) k caught) in
+      let still : catches c s (thinned_setting c s r) ≡ true = thinned_catches c s (fixing bits) k caught in
+      let told : ShownByEveryFilling c s (thinned_setting c s r) = catch_shown c s (thinned_setting c s r) still in
       let form : InForm k (thinned_setting c s r) = thinned_in_form c s k (fixing bits) k (subst (λ (n : ℕ). InForm n (fixing bits)) is (fixing_in_form bits)) in
       record {
         every_filling_of_a_shown_vector_shows_the_fault = λ v e. let is : thinned_setting c s r ≡ v = cc in subst (ShownByEveryFilling c s) is told;
+        a_shown_vector_catches_the_fault = λ v e. let is : thinned_setting c s r ≡ v = cc in subst (λ (x : Cells). catches c s x ≡ true) is still;
         a_shown_vector_is_in_form = λ v e. let is : thinned_setting c s r ≡ v = cc in subst (InForm k) is form;
         untestable_means_no_setting_shows = λ e. absurd (cc);
         enough_steps_settle = λ h e. cc;
@@ -71,6 +73,7 @@ module _ (c : Netlist) (s : Stuck) (lawful : Lawful c) where
   none_tells : (budget : ℕ) → Says (holds_formula c s) budget Unsatisfiable None → Tells c s budget untestable
   none_tells budget never = record {
     every_filling_of_a_shown_vector_shows_the_fault = λ v e. absurd (cc);
+    a_shown_vector_catches_the_fault = λ v e. absurd (cc);
     a_shown_vector_is_in_form = λ v e. absurd (cc);
     untestable_means_no_setting_shows = λ e bits shows.
         let (r, extends) = laws.means.a_showing_setting_extends bits shows in
@@ -81,6 +84,7 @@ module _ (c : Netlist) (s : Stuck) (lawful : Lawful c) where
   unknown_tells : (budget : ℕ) → Says (holds_formula c s) budget Undecided None → Tells c s budget unknown
   unknown_tells budget settles = record {
     every_filling_of_a_shown_vector_shows_the_fault = λ v e. absurd (cc);
+    a_shown_vector_catches_the_fault = λ v e. absurd (cc);
     a_shown_vector_is_in_form = λ v e. absurd (cc);
     untestable_means_no_setting_shows = λ e. absurd (cc);
     enough_steps_settle = λ h e. settles laws.led h;

@@ -1,11 +1,11 @@
 -- What a solver's answer says of a fault: a vector that shows it, that no setting shows it, or nothing.
--- `Asks` ties it to the solver that was asked; `Tells` says what a finding means, in words of settings and fillings.
+-- `Asks` ties it to an answer that a solver may give; `Tells` says what a finding means, in words of settings and fillings.
 use Rattle.std.specs.Prelude.{◌≡◌, ℕ, ◌≤◌, Bool, true, List, map, take, Some, None, Option, ◌≢◌}
 use Rattle.card.specs.Netlists.{Netlist}
 use Rattle.signal.specs.declared.line.Stuck.{Stuck}
 use Rattle.vectors.specs.Vectors.{Cells, InForm, holding}
 use Rattle.vectors.specs.Views.{cells_of}
-use Rattle.faults.specs.Catching.{ShownByEveryFilling}
+use Rattle.faults.specs.Catching.{ShownByEveryFilling, catches}
 use Rattle.faults.specs.Showing.{Never}
 use Rattle.faults.specs.Thinning.{thinned}
 use Rattle.solving.specs.Answers.{Answers}
@@ -39,7 +39,8 @@ finding c s Found (Some reading) = shown (thinned_setting c s reading)
 finding c s Unsatisfiable reading = untestable
 finding c s Undecided reading = unknown
 
--- the solver was given the formula of the fault and nothing else, and solved it within the budget; n is what it holds afterwards
+-- this is an answer that a solver may give on the formula of the fault and nothing else, within the budget; n is what it then holds, and
+-- found is what the answer says. That the solver gave this answer is said by its own way of answering, beside it
 pub record Asks (c : Netlist) (s : Stuck) (budget : ℕ) (solved : Solved) (found : Finding) (n : Model) : Type 0 where
   pub answers : Answers (holds_formula c s) budget solved n
   pub says : found ≡ finding c s solved.verdict n.reading
@@ -47,6 +48,7 @@ pub record Asks (c : Netlist) (s : Stuck) (budget : ℕ) (solved : Solved) (foun
 -- what a finding means
 pub record Tells (c : Netlist) (s : Stuck) (budget : ℕ) (found : Finding) : Type 0 where
   pub every_filling_of_a_shown_vector_shows_the_fault : (v : Cells) → found ≡ shown v → ShownByEveryFilling c s v
+  pub a_shown_vector_catches_the_fault : (v : Cells) → found ≡ shown v → catches c s v ≡ true
   pub a_shown_vector_is_in_form : (v : Cells) → found ≡ shown v → InForm c.inputs v
   pub untestable_means_no_setting_shows : found ≡ untestable → Never c s
   pub enough_steps_settle : enough c.inputs ≤ budget → found ≢ unknown

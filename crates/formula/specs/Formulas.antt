@@ -1,4 +1,5 @@
 -- The formula of a fault: the clauses of all links in order, and last one clause that some output differs.
+-- A reading that satisfies it begins with a setting that shows the fault; the clauses stand in this order and in no other.
 use Rattle.std.specs.Prelude.{ℕ, suc, List, [], ◌∷◌, ◌++◌, ℤ, pos}
 use Rattle.std.specs.List.{flat_map}
 use Rattle.card.specs.Netlists.{Netlist, nets}

@@ -1,4 +1,5 @@
 -- Lemmas on histories and what follows of them.
+pub mod Caught
 pub mod Granted
 pub mod Tickets
 pub mod Verdicts

@@ -1,4 +1,4 @@
--- A merge leaves every verdict right: what either vector shows, the merged one shows.
+-- A merge leaves every verdict right: what either vector catches, the merged one catches.
 use Rattle.std.proofs.Common.{◌≡◌, ℕ, ◌+◌, ◌-◌, ◌<◌, ◌≤◌, Bool, true, cond, List, ◌∷◌, map, length, get_or, set, Ok, sym, refl, ap, ◌∙◌, subst, ⊎_elim, arith, length-set, get_or-set_other, get_or-set_same}
 use lib.Bits.{bit_and, bit_xor}
 use lib.ListN.{length-map}
@@ -8,17 +8,19 @@ use Rattle.std.proofs.lemmas.List.{get_or-map, get_or_past}
 use Rattle.std.proofs.lemmas.Bool.{cases_eq, cases_lt, eq-eqb, eqb-true, le-ltb, lt-ltb, ne_eqb, or_from, or_parts}
 use Rattle.card.specs.Netlists.{Netlist}
 use Rattle.vectors.specs.Merging.{mergeable, union}
-use Rattle.vectors.specs.Vectors.{Cells, Fills, InForm, bit_at}
+use Rattle.vectors.specs.Extending.{Extends}
+use Rattle.vectors.specs.Vectors.{Cells, InForm, bit_at}
 use Rattle.vectors.proofs.Bits.{bit_or_lem}
 use Rattle.vectors.proofs.Forms.{free_from_bits}
-use Rattle.vectors.proofs.Merged.{union_filled}
+use Rattle.vectors.proofs.Merged.{union_extends}
+use Rattle.faults.specs.Catching.{catches_fault}
 use Rattle.history.specs.Changing.{lowered, renamed, renumbered}
 use Rattle.history.specs.Histories.{AmpleSearch, AmplySearched, History}
-use Rattle.history.specs.Promises.{ShownByFillings}
 use Rattle.history.specs.Steps.{merged}
 use Rattle.history.specs.Views.{View, blank, mark, vector_at}
 use Rattle.history.specs.declared.mark.Mark.{Mark}
 use Rattle.history.specs.declared.mark.Mark.TheVariants.{Open, Detected, Untestable}
+use Rattle.history.proofs.Caught.{fault_caught_more}
 use Rattle.history.proofs.Granted.{Mergeable}
 use Rattle.history.proofs.Verdicts.{ListedFor, Verdicts, same_number}
 
@@ -50,13 +52,6 @@ mark_renamed i j ms f =
 
 -- ---- vectors
 
-narrower : (c : Netlist) (f : ℕ) (x y : Cells) → ((bits : List Bool) → Fills c.inputs y bits → Fills c.inputs x bits) → ShownByFillings c f x → ShownByFillings c f y
-narrower c f x y fewer k = record {
-  stuck = k.stuck;
-  is_the_faults_line = k.is_the_faults_line;
-  shown = record { output = k.shown.output; shown = λ bits fills. k.shown.shown bits (fewer bits fills) };
-}
-
 union_in_form : (k : ℕ) (x y : Cells) → InForm k x → InForm k y → InForm k (union x y)
 union_in_form k x y a b = record {
   within = λ j le. bit_or_lem x.care y.care j ∙ or_from (bit_at x.care j) (bit_at y.care j) (a.within j le) (b.within j le);
@@ -69,14 +64,14 @@ module _ (c : Netlist) (x y : Cells) (a : InForm c.inputs x) (b : InForm c.input
   clear : bit_and (bit_and x.care y.care) (bit_xor x.value y.value) ≡ 0
   clear = eqb-true (bit_and (bit_and x.care y.care) (bit_xor x.value y.value)) 0 fit
 
-  filled_by_both : (bits : List Bool) → Fills c.inputs (union x y) bits → Fills c.inputs x bits × Fills c.inputs y bits
-  filled_by_both bits fills = (union_filled x y (free_from_bits x.care x.value a.free_is_zero) (free_from_bits y.care y.value b.free_is_zero) clear c.inputs bits).0 fills
+  extends_both : Extends (union x y) x × Extends (union x y) y
+  extends_both = union_extends x y (free_from_bits x.care x.value a.free_is_zero) (free_from_bits y.care y.value b.free_is_zero) clear
 
-  shown_by_first : (f : ℕ) → ShownByFillings c f x → ShownByFillings c f (union x y)
-  shown_by_first f k = narrower c f x (union x y) (λ bits fills. (filled_by_both bits fills).0) k
+  caught_by_first : (f : ℕ) → catches_fault c f x ≡ true → catches_fault c f (union x y) ≡ true
+  caught_by_first f k = fault_caught_more c f x (union x y) extends_both.0 k
 
-  shown_by_second : (f : ℕ) → ShownByFillings c f y → ShownByFillings c f (union x y)
-  shown_by_second f k = narrower c f y (union x y) (λ bits fills. (filled_by_both bits fills).1) k
+  caught_by_second : (f : ℕ) → catches_fault c f y ≡ true → catches_fault c f (union x y) ≡ true
+  caught_by_second f k = fault_caught_more c f y (union x y) extends_both.1 k
 
 -- a vector other than j keeps its place below j, and drops by one above it
 moved : (xs : List Cells) (j n : ℕ) → j < length xs → n < length xs → (n ≡ j → ⊥) → (lowered j n < length (remove xs j)) × (get_or (remove xs j) (lowered j n) blank ≡ get_or xs n blank)
@@ -123,14 +118,14 @@ module _ (c : Netlist) (h : History) (v : View) (i j : ℕ) (able : Mergeable v 
   elsewhere : (q : ℕ) → (q ≡ i → ⊥) → get_or held q blank ≡ vector_at v q
   elsewhere q ne = get_or-set_other v.vectors i q both blank ne
 
-  -- each vector still shows what it showed, the first one with the second one's cells
-  held_shows : (f q : ℕ) → ShownByFillings c f (vector_at v q) → ShownByFillings c f (get_or held q blank)
-  held_shows f q k =
+  -- each vector still catches what it caught, the first one with the second one's cells
+  held_catches : (f q : ℕ) → catches_fault c f (vector_at v q) ≡ true → catches_fault c f (get_or held q blank) ≡ true
+  held_catches f q k =
       ⊎_elim
       (λ (e : q ≡ i).
-      subst (λ (n : ℕ). ShownByFillings c f (get_or held n blank)) (sym e)
-      (subst (ShownByFillings c f) (sym at_first) (shown_by_first c (vector_at v i) (vector_at v j) first_form second_form able.fit f (subst (λ (n : ℕ). ShownByFillings c f (vector_at v n)) e k))))
-      (λ (ne : q ≡ i → ⊥). subst (ShownByFillings c f) (sym (elsewhere q ne)) k)
+      subst (λ (n : ℕ). catches_fault c f (get_or held n blank) ≡ true) (sym e)
+      (subst (λ (x : Cells). catches_fault c f x ≡ true) (sym at_first) (caught_by_first c (vector_at v i) (vector_at v j) first_form second_form able.fit f (subst (λ (n : ℕ). catches_fault c f (vector_at v n) ≡ true) e k))))
+      (λ (ne : q ≡ i → ⊥). subst (λ (x : Cells). catches_fault c f x ≡ true) (sym (elsewhere q ne)) k)
       (cases_eq q i)
 
   held_formed : (q : ℕ) → q < length v.vectors → InForm c.inputs (get_or held q blank)
@@ -150,13 +145,13 @@ module _ (c : Netlist) (h : History) (v : View) (i j : ℕ) (able : Mergeable v 
       let num : renumbered i j q ≡ lowered j i = ap (λ (b : Bool). lowered j (cond b i q)) (eq-eqb q j e) in
       let (lt, is) = moved held j i jlt (omega (arith, long, able.first_listed)) able.apart in
       let there : get_or (remove held j) (renumbered i j q) blank ≡ both = ap (λ (n : ℕ). get_or (remove held j) n blank) num ∙ is ∙ at_first in
-      let by : ShownByFillings c f both = shown_by_second c (vector_at v i) (vector_at v j) first_form second_form able.fit f (subst (λ (n : ℕ). ShownByFillings c f (vector_at v n)) e k) in
-      (omega (arith, num, lt), subst (ShownByFillings c f) (sym there) by))
+      let by : catches_fault c f both ≡ true = caught_by_second c (vector_at v i) (vector_at v j) first_form second_form able.fit f (subst (λ (n : ℕ). catches_fault c f (vector_at v n) ≡ true) e k) in
+      (omega (arith, num, lt), subst (λ (x : Cells). catches_fault c f x ≡ true) (sym there) by))
       (λ (ne : q ≡ j → ⊥).
       let num : renumbered i j q ≡ lowered j q = ap (λ (b : Bool). lowered j (cond b i q)) (ne_eqb q j ne) in
       let (lt, is) = moved held j q jlt (omega (arith, long, qlt)) ne in
       let there : get_or (remove held j) (renumbered i j q) blank ≡ get_or held q blank = ap (λ (n : ℕ). get_or (remove held j) n blank) num ∙ is in
-      (omega (arith, num, lt), subst (ShownByFillings c f) (sym there) (held_shows f q k)))
+      (omega (arith, num, lt), subst (λ (x : Cells). catches_fault c f x ≡ true) (sym there) (held_catches f q k)))
       (cases_eq q j)
 
   pub verdicts_merged : (u : Unit {0}) → Verdicts c (merged i j (Ok u) ∷ h) (map (renamed i j) v.marks) (remove held j)

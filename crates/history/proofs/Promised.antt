@@ -20,6 +20,7 @@ use Rattle.history.specs.declared.refusal.CloseRefusal.{CloseRefusal}
 use Rattle.history.specs.declared.refusal.VectorRefusal.{VectorRefusal}
 use Rattle.history.specs.declared.refusal.AddRefusal.{AddRefusal}
 use Rattle.history.specs.declared.refusal.MergeRefusal.{MergeRefusal}
+use Rattle.history.proofs.Caught.{catches_shown}
 use Rattle.history.proofs.Granted.{add_able, close_able, merge_able, search_able, sweep_able, taken_able}
 use Rattle.history.proofs.Merged.{mark_renamed, verdicts_merged}
 use Rattle.history.proofs.Swept.{mark_swept, verdicts_swept}
@@ -145,14 +146,19 @@ settle c f Untestable shut never caught = record {
 
 pub promised : (c : Netlist) (h : History) (v : View) → Sound c h v → Promise c h v
 promised c h v s = record {
-  every_filling_of_its_listed_vector_shows_a_detected_fault = s.verdicts.detected;
+  every_filling_of_its_listed_vector_shows_a_detected_fault = λ f i m. let (lt, k) = s.verdicts.detected f i m in (lt, catches_shown c f (vector_at v i) k);
+  its_listed_vector_catches_a_detected_fault = λ f i m. (s.verdicts.detected f i m).1;
   no_setting_shows_an_untestable_fault = s.verdicts.untestable;
-  enough_steps_settle_a_fault = λ f a. settle c f (mark v f) (s.verdicts.settled f a) (s.verdicts.untestable f) (λ i m. (vector_at v i, (s.verdicts.detected f i m).1));
+  enough_steps_settle_a_fault = λ f a. settle c f (mark v f) (s.verdicts.settled f a) (s.verdicts.untestable f) (λ i m. (vector_at v i, catches_shown c f (vector_at v i) (s.verdicts.detected f i m).1));
   open_detected_and_untestable_are_all_faults = three v.marks ∙ s.verdicts.all_marked;
   as_many_taken_as_takes_less_closes = s.tickets.total;
   each_taken_fault_has_one_unclosed_ticket = λ own f held.
       let one : ◌≡◌ {A = ℕ} (cond (is_taken v f) 1 0) 1 = ap (λ (b : Bool). cond b 1 0) held in
       omega (arith, s.tickets.each own f, one);
+  no_other_fault_has_one = λ own f free.
+      let none : ◌≡◌ {A = ℕ} (cond (is_taken v f) 1 0) 0 = ap (λ (b : Bool). cond b 1 0) free in
+      omega (arith, s.tickets.each own f, none);
+  every_fault_has_a_mark_and_a_flag = (s.verdicts.all_marked, s.tickets.all_noted);
   at_most_512_vectors = s.verdicts.few;
   every_listed_vector_is_in_form = s.verdicts.formed;
 }

@@ -3,7 +3,7 @@ use Rattle.std.proofs.Common.{◌≡◌, [], ◌∷◌, ◌++◌, sym, subst}
 use mathlib.Core.Logic.{∥∥₁_map}
 use Rattle.card.specs.Netlists.{Lawful, Netlist}
 use Rattle.history.specs.Histories.{History, LeadsTo, Run}
-use Rattle.history.specs.Promises.{Reached, Stands}
+use Rattle.history.specs.Promises.{PromisedAfter, Reached, Stands}
 use Rattle.history.specs.Steps.{Event, Step}
 use Rattle.history.specs.Views.{View, new_view}
 use Rattle.history.proofs.Promised.{law}
@@ -20,3 +20,6 @@ reached_stands c v lawful r = ∥∥₁_map r (λ (h : (h : History) × LeadsTo 
 pub run_append : (c : Netlist) (v u w : View) (older newer : History) → Run c v older u → Run c u newer w → Run c v (newer ++ older) w
 run_append c v u w older [] a is = subst (Run c v older) (sym is) a
 run_append c v u w older (e ∷ newer) a (m, b, step) = (m, run_append c v u m older newer a b, step)
+
+pub promised_after : (c : Netlist) (v w : View) (e : Event) → Lawful c → Step c v e w → PromisedAfter c v e w
+promised_after c v w e lawful step h leads = (law c lawful (e ∷ h) w (v, leads, step)).0

@@ -1,32 +1,18 @@
 -- A sweep marks only what its vector catches.
-use Rattle.std.proofs.Common.{◌≡◌, ℕ, ◌<◌, ◌≤◌, Bool, true, false, cond, not, ◌&&◌, ◌⊎◌, ◌∷◌, length, Some, None, Ok, Option, sym, refl, ◌∙◌, subst, inl, inr, ⊎_elim, arith}
+use Rattle.std.proofs.Common.{◌≡◌, ℕ, ◌<◌, ◌≤◌, Bool, true, false, cond, not, ◌&&◌, ◌⊎◌, ◌∷◌, length, Ok, sym, ◌∙◌, subst, inl, inr, ⊎_elim, arith}
 use Rattle.std.proofs.lemmas.List.FromFn.{get_or-map-range_with_len, length-map-range_with_len}
 use Rattle.std.proofs.lemmas.List.{get_or_past}
-use Rattle.std.proofs.lemmas.Bool.{and_parts, cases_Bool, cases_lt, false≢true}
+use Rattle.std.proofs.lemmas.Bool.{and_parts, cases_Bool, cases_lt}
 use Rattle.card.specs.Netlists.{Netlist}
-use Rattle.signal.specs.declared.line.Stuck.{Stuck}
-use Rattle.vectors.specs.Vectors.{Cells}
-use Rattle.faults.specs.Catching.{catches_fault, caught_if}
-use Rattle.faults.specs.Sites.{stuck_of}
-use Rattle.faults.proofs.Caught.{catch_shown}
+use Rattle.faults.specs.Catching.{catches_fault}
 use Rattle.history.specs.Changing.{sweeping, swept_mark}
 use Rattle.history.specs.Granting.{sweep_marks}
 use Rattle.history.specs.Histories.{AmpleSearch, AmplySearched, History}
-use Rattle.history.specs.Promises.{ShownByFillings}
 use Rattle.history.specs.Steps.{swept}
 use Rattle.history.specs.Views.{View, is_open, is_taken, mark, vector_at}
 use Rattle.history.specs.declared.mark.Mark.{Mark}
 use Rattle.history.specs.declared.mark.Mark.TheVariants.{Open, Detected, Untestable}
 use Rattle.history.proofs.Verdicts.{Decided, ListedFor, Verdicts, decided_within, not_open, same_number}
-
--- a vector that catches a fault by its number is shown by every filling
-catch_told : (c : Netlist) (f : ℕ) (x : Cells) (t : Option Stuck) → stuck_of c f ≡ t → caught_if c t x ≡ true → ShownByFillings c f x
-catch_told c f x None e told = absurd (false≢true told)
-catch_told c f x (Some s) e told = record { stuck = s; is_the_faults_line = e; shown = catch_shown c s x told }
-
-pub catches_shown : (c : Netlist) (f : ℕ) (x : Cells) → catches_fault c f x ≡ true → ShownByFillings c f x
-unfolding catches_fault
-catches_shown c f x told = catch_told c f x (stuck_of c f) refl told
 
 module _ (c : Netlist) (v : View) (i : ℕ) where
   -- what stands after a sweep was swept, or stood before
@@ -64,10 +50,10 @@ module _ (c : Netlist) (v : View) (i : ℕ) where
       (λ (le : length v.marks ≤ f). get_or_past v.marks f Open le)
       (cases_lt f (length v.marks))
 
-  caught_by : (f : ℕ) → sweep_marks c v i f ≡ true → ShownByFillings c f (vector_at v i)
+  caught_by : (f : ℕ) → sweep_marks c v i f ≡ true → catches_fault c f (vector_at v i) ≡ true
   caught_by f t =
       let (_, rest) = and_parts (is_open (mark v f)) (not (is_taken v f) && catches_fault c f (vector_at v i)) t in
-      catches_shown c f (vector_at v i) (and_parts (not (is_taken v f)) (catches_fault c f (vector_at v i)) rest).1
+      (and_parts (not (is_taken v f)) (catches_fault c f (vector_at v i)) rest).1
 
   pub verdicts_swept : (h : History) (n : ℕ) → i < length v.vectors → Verdicts c h v.marks v.vectors → Verdicts c (swept i (Ok n) ∷ h) (sweeping c v i).marks v.vectors
   verdicts_swept h n lt s = record {

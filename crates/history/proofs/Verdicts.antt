@@ -1,11 +1,12 @@
 -- Every verdict is right along every history: takes, closes, adds and searches.
-use Rattle.std.proofs.Common.{◌≡◌, ℕ, ◌+◌, ◌<◌, ◌≤◌, List, [], ◌∷◌, ◌++◌, length, get_or, set, replicate, Some, Ok, sym, refl, ap, ◌∙◌, subst, ⊎_elim, arith, length-append, length-set, get_or-set_other, get_or-set_same}
+use Rattle.std.proofs.Common.{◌≡◌, ℕ, ◌+◌, ◌<◌, ◌≤◌, true, List, [], ◌∷◌, ◌++◌, length, get_or, set, replicate, Some, Ok, sym, refl, ap, ◌∙◌, subst, ⊎_elim, arith, length-append, length-set, get_or-set_other, get_or-set_same}
 use lib.ListN.{length-replicate}
 use Rattle.std.proofs.lemmas.List.{get_or_append_left, get_or_past, get_or_push}
 use Rattle.std.proofs.lemmas.Bool.{cases_eq, cases_lt}
 use Rattle.card.specs.Netlists.{Lawful, Netlist}
 use Rattle.signal.specs.declared.line.Stuck.{Stuck}
 use Rattle.vectors.specs.Vectors.{Cells, InForm}
+use Rattle.faults.specs.Catching.{catches_fault}
 use Rattle.faults.specs.Showing.{Shows}
 use Rattle.faults.specs.Sites.{fault_count, stuck_of}
 use Rattle.solving.specs.Models.{Model}
@@ -14,11 +15,12 @@ use Rattle.asking.specs.Findings.{Finding, Tells, shown, unknown, untestable}
 use Rattle.asking.proofs.Told.{asks_tells}
 use Rattle.history.specs.Changing.{entering}
 use Rattle.history.specs.Histories.{AmpleSearch, AmplySearched, History}
-use Rattle.history.specs.Promises.{NoSettingShows, ShownByFillings}
+use Rattle.history.specs.Promises.{NoSettingShows}
 use Rattle.history.specs.Steps.{Event, KnownTicket, Searched, searched}
 use Rattle.history.specs.Views.{View, blank, most}
 use Rattle.history.specs.declared.mark.Mark.{Mark}
 use Rattle.history.specs.declared.mark.Mark.TheVariants.{Open, Detected, Untestable}
+use Rattle.history.proofs.Caught.{fault_caught}
 use Rattle.history.proofs.Granted.{Searchable}
 use Rattle.history.proofs.Tickets.{get_d_new}
 
@@ -41,9 +43,9 @@ decided_within ms f m d e = ⊎_elim (λ h. h) (λ (h : length ms ≤ f). absurd
 
 -- ---- the invariant
 
--- vector i is listed, and every filling of it shows the fault
+-- vector i is listed and catches the fault
 abbrev pub ListedFor : Netlist → ℕ → List Cells → ℕ → Type 0
-ListedFor c f xs i = (i < length xs) × ShownByFillings c f (get_or xs i blank)
+ListedFor c f xs i = (i < length xs) × (catches_fault c f (get_or xs i blank) ≡ true)
 
 pub record Verdicts (c : Netlist) (h : History) (ms : List Mark) (xs : List Cells) : Type 0 where
   pub all_marked : length ms ≡ fault_count c
@@ -81,7 +83,7 @@ module _ (c : Netlist) (xs : List Cells) (x : Cells) where
   longer = length-append xs (x ∷ [])
 
   listed_more : (f i : ℕ) → ListedFor c f xs i → ListedFor c f (xs ++ (x ∷ [])) i
-  listed_more f i (lt, k) = (omega (arith, lt, longer), subst (ShownByFillings c f) (sym (get_or_append_left xs (x ∷ []) blank i lt)) k)
+  listed_more f i (lt, k) = (omega (arith, lt, longer), subst (λ (y : Cells). catches_fault c f y ≡ true) (sym (get_or_append_left xs (x ∷ []) blank i lt)) k)
 
   formed_more : ((i : ℕ) → i < length xs → InForm c.inputs (get_or xs i blank)) → InForm c.inputs x → (i : ℕ) → i < length (xs ++ (x ∷ [])) → InForm c.inputs (get_or (xs ++ (x ∷ [])) i blank)
   formed_more old new i lt =
@@ -146,7 +148,7 @@ module _ (c : Netlist) (h : History) (v : View) (t : KnownTicket) (budget : ℕ)
       (λ i e.
       let same : n ≡ i = same_number n i e in
       let last : get_or (v.vectors ++ (x ∷ [])) i blank ≡ x = get_or_push v.vectors x blank i same in
-      (omega (arith, same, longer c v.vectors x), subst (ShownByFillings c f) (sym last) (record { stuck = stuck; is_the_faults_line = is; shown = tells.every_filling_of_a_shown_vector_shows_the_fault x refl })))
+      (omega (arith, same, longer c v.vectors x), subst (λ (y : Cells). catches_fault c f y ≡ true) (sym last) (fault_caught c f x stuck is (tells.a_shown_vector_catches_the_fault x refl))))
       (λ e. absurd (cc))
       (listed_more c v.vectors x)
       (omega (arith, able.room, longer c v.vectors x))

@@ -1,4 +1,5 @@
 -- What each granted call makes of what a job holds.
+-- A refused call changes nothing; that stands with the steps, where a call's answer decides between the two.
 use Rattle.std.specs.Prelude.{ℕ, ◌-◌, true, false, cond, [], ◌∷◌, ◌++◌, map, length, ◌==◌, nat_lt, slice_set}
 use Rattle.std.specs.List.{remove, range_with_len}
 use Rattle.card.specs.Netlists.{Netlist}

@@ -1,4 +1,5 @@
 -- Histories: lists of calls with their answers, the newest first, and what is counted in them.
+-- A history is all that is known of a job's past: which calls were granted, which tickets were given and spent, which searches were ample.
 use Rattle.std.specs.Prelude.{◌≡◌, ℕ, ◌≤◌, Bool, true, false, ◌&&◌, ◌⊎◌, List, [], ◌∷◌, is_ok, ◌==◌}
 use Rattle.card.specs.Netlists.{Netlist}
 use Rattle.solving.specs.Leading.{enough}

@@ -1,4 +1,5 @@
 -- The number of every refusal of a job's calls.
+-- Equal numbers mean the same thing wherever they stand: 12 that the fault is not taken, 14 that the list is full, 15 that there is no such vector.
 use Rattle.std.specs.Prelude.{ℕ}
 use Rattle.history.specs.declared.refusal.TakeRefusal.{TakeRefusal}
 use Rattle.history.specs.declared.refusal.TakeRefusal.TheVariants as take

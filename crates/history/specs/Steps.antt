@@ -18,7 +18,8 @@ use Rattle.history.specs.declared.refusal.VectorRefusal.{VectorRefusal}
 use Rattle.history.specs.declared.refusal.AddRefusal.{AddRefusal}
 use Rattle.history.specs.declared.refusal.MergeRefusal.{MergeRefusal}
 
--- a ticket as the history of a job knows it: its fault, and whether it is the job's own, which is to say that a take of this job gave it
+-- a ticket as the history of a job knows it: its fault, and whether it is said to be the job's own, given by a take of this job.
+-- No number tells who gave a ticket, so the law is stated for every such saying
 pub record KnownTicket : Type 0 where
   pub fault : ℕ
   pub own : Bool
@@ -32,7 +33,8 @@ pub data Event : Type 0 where
   added : ℕ → ℕ → Result ℕ AddRefusal → Event
   merged : ℕ → ℕ → Result (Unit {0}) MergeRefusal → Event
 
--- a granted search: a solver that keeps its promises was given the fault's formula and holds n afterwards; what it found is entered
+-- a granted search: this is an answer that a solver may give on the fault's formula, and n is what it then holds; what the answer says is
+-- entered. That a solver gave it is said where the solver is known, by its own way of answering
 pub record Searched (c : Netlist) (v : View) (fault budget : ℕ) (solved : Solved) (n : Model) (w : View) : Type 0 where
   pub stuck : Stuck
   pub is_the_faults_line : stuck_of c fault ≡ Some stuck

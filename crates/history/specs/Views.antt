@@ -1,4 +1,5 @@
 -- What a job holds beside its card: a mark for each fault, whether it is taken, and the vectors in order.
+-- This is all of a job that its calls speak of; a number past the faults reads as open, not taken, and past the vectors as all free.
 use Rattle.std.specs.Prelude.{ℕ, Bool, true, false, List, [], replicate, slice_index_or}
 use Rattle.card.specs.Netlists.{Netlist}
 use Rattle.vectors.specs.Vectors.{Cells, holding}

@@ -3,11 +3,11 @@ use Rattle.std.proofs.Common.{◌≡◌, ℕ, Bool, true, Ok, Err, Result}
 use Rattle.card.specs.Netlists.{Lawful, Netlist}
 use Rattle.solving.specs.Models.{Model}
 use Rattle.solving.specs.declared.verdict.Solved.{Solved}
-use Rattle.history.specs.Promises.{Reached, Stands}
+use Rattle.history.specs.Promises.{PromisedAfter, Reached, Stands}
 use Rattle.history.specs.Steps.{Event, Step, searched}
 use Rattle.history.specs.Views.{View}
 use Rattle.history.specs.declared.refusal.SearchRefusal.{SearchRefusal}
-use Rattle.history.proofs.Reaching.{reached_stands, reached_step}
+use Rattle.history.proofs.Reaching.{promised_after, reached_stands, reached_step}
 use Rattle.job.specs.Tables.{Led, SearchAnswers, card_of, known_as, view_of}
 use Rattle.job.specs.declared.table.Table.{Table}
 use Rattle.job.specs.declared.ticket.Ticket.{Ticket}
@@ -32,3 +32,6 @@ led_on t u e led before = reached_step (card_of t) (card_of u) (view_of t) (view
 
 pub stands : (t : Table) → Reached (card_of t) (view_of t) → Stands (card_of t) (view_of t)
 stands t r = reached_stands (card_of t) (view_of t) (lawful t) r
+
+pub promised : (t : Table) (e : Event) (w : View) → Step (card_of t) (view_of t) e w → PromisedAfter (card_of t) (view_of t) e w
+promised t e w step = promised_after (card_of t) (view_of t) w e (lawful t) step

@@ -27,6 +27,10 @@ sweeps_by c v x f = is_open (mark v f) && (not (is_taken v f) && catches_fault c
 abbrev pub mark_at : List Marked → ℕ → Mark
 mark_at xs f = get_or (map mark_of xs) f Open
 
+-- a test that was made of a response of this card
+pub asked_of : (m c : Netlist) (x : Cells) (k : Mark) (t : Bool) (f : ℕ) (b : Bool) → m ≡ c → b ≡ (is_open k && (not t && catches_fault m f x)) → b ≡ (is_open k && (not t && catches_fault c f x))
+asked_of m c x k t f b p e = e ∙ ap (λ (n : Netlist). is_open k && (not t && catches_fault n f x)) p
+
 at_most_one : (b : Bool) → cond b 1 0 ≤ 1
 at_most_one true = omega arith
 at_most_one false = omega arith

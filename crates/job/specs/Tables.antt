@@ -1,4 +1,5 @@
 -- What a job holds, as lists, and its answers as the history knows them.
+-- The running job keeps rows and structures; here they are read as a view, so that its calls are steps of the history.
 use Rattle.std.specs.Prelude.{◌≡◌, ℕ, Bool, map, Ok, Err, vec_items, Result}
 use Rattle.card.specs.Netlists.{Netlist}
 use Rattle.vectors.specs.Views.{cells_of}

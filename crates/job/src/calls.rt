@@ -1,6 +1,6 @@
 // The calls of a job. Each says when it is granted and what it then does; a refused call changes nothing;
 // and each is a step of the job's history, after which the law of jobs holds.
-ghost use Rattle.std.specs.Prelude.{◌≡◌, Bool, is_ok, IfOk, IfErr, if◌then◌else◌, Some};
+ghost use Rattle.std.specs.Prelude.{◌≡◌, Bool, is_ok, IfOk, IfErr, OnErr, if◌then◌else◌, Some};
 ghost use Rattle.card.specs.Views.{netlist_of};
 ghost use Rattle.signal.specs.declared.line.Stuck.{Stuck as StuckLine};
 ghost use Rattle.faults.specs.Sites.{stuck_of};
@@ -8,7 +8,7 @@ ghost use Rattle.formula.specs.Posing.{holds_formula};
 ghost use Rattle.vectors.specs.Vectors.{holding};
 ghost use Rattle.history.specs.Changing.{adding, closing, merging, sweeping, taking};
 ghost use Rattle.history.specs.Granting.{adds, closes, merges, sweeps, takes};
-ghost use Rattle.history.specs.Promises.{Stands};
+ghost use Rattle.history.specs.Promises.{PromisedAfter, Stands};
 ghost use Rattle.history.specs.Steps.{added, closed, merged, searched, Step, swept, took};
 ghost use Rattle.history.specs.Views.{new_view};
 ghost use Rattle.job.specs.Jobs.{card_held, held};
@@ -43,6 +43,7 @@ impl Job {
         ensures the_fault_is_taken_or_nothing_changes { held self.new ≡ (if is_ok result then taking (held self.old) fault else held self.old) }
         ensures the_card_stays { card_held self.new ≡ card_held self.old }
         ensures is_a_step_of_the_history { Step (card_held self.old) (held self.old) (took fault (granted result)) (held self.new) }
+        ensures the_promise_holds_after_whatever_history_led_here { PromisedAfter (card_held self.old) (held self.old) (took fault (granted result)) (held self.new) }
         ensures the_law_of_jobs_holds { Stands (card_held self.new) (held self.new) }
     {
         self.table.take(fault)
@@ -57,8 +58,10 @@ impl Job {
     ) -> Result<Solved, SearchRefusal>
         ensures the_solvers_answer_is_entered_or_a_refusal_changes_neither_job_nor_solver { SearchAnswers (card_held self.old) (held self.old) ticket.now.fault budget (S.Solver.model solver.old) result (held self.new) (S.Solver.model solver.new) }
         ensures the_solver_answered_in_its_own_way { IfOk result (λ solved. (s : StuckLine) → stuck_of (card_held self.old) ticket.now.fault ≡ Some s → S.Answering.answering (holds_formula (card_held self.old) s) budget solved (S.Solver.model solver.new)) }
+        ensures a_refusal_leaves_the_solver { OnErr result (solver.new ≡ solver.old) }
         ensures the_card_stays { card_held self.new ≡ card_held self.old }
         ensures is_a_step_of_the_history { (own : Bool) → Step (card_held self.old) (held self.old) (searched (known_as ticket.now own) budget result) (held self.new) }
+        ensures the_promise_holds_after_whatever_history_led_here { (own : Bool) → PromisedAfter (card_held self.old) (held self.old) (searched (known_as ticket.now own) budget result) (held self.new) }
         ensures the_law_of_jobs_holds { Stands (card_held self.new) (held self.new) }
     {
         self.table.search(ticket, solver, budget)
@@ -71,6 +74,7 @@ impl Job {
         ensures the_fault_is_closed_or_nothing_changes { held self.new ≡ (if is_ok result then closing (held self.old) ticket.fault else held self.old) }
         ensures the_card_stays { card_held self.new ≡ card_held self.old }
         ensures is_a_step_of_the_history { (own : Bool) → Step (card_held self.old) (held self.old) (closed (known_as ticket own) (closed_with result)) (held self.new) }
+        ensures the_promise_holds_after_whatever_history_led_here { (own : Bool) → PromisedAfter (card_held self.old) (held self.old) (closed (known_as ticket own) (closed_with result)) (held self.new) }
         ensures the_law_of_jobs_holds { Stands (card_held self.new) (held self.new) }
     {
         self.table.close(ticket)
@@ -82,6 +86,7 @@ impl Job {
         ensures every_caught_fault_is_marked_or_nothing_changes { held self.new ≡ (if is_ok result then sweeping (card_held self.old) (held self.old) vector else held self.old) }
         ensures the_card_stays { card_held self.new ≡ card_held self.old }
         ensures is_a_step_of_the_history { Step (card_held self.old) (held self.old) (swept vector result) (held self.new) }
+        ensures the_promise_holds_after_whatever_history_led_here { PromisedAfter (card_held self.old) (held self.old) (swept vector result) (held self.new) }
         ensures the_law_of_jobs_holds { Stands (card_held self.new) (held self.new) }
     {
         self.table.sweep(vector)
@@ -93,6 +98,7 @@ impl Job {
         ensures the_vector_is_put_last_or_nothing_changes { held self.new ≡ (if is_ok result then adding (held self.old) (holding care value) else held self.old) }
         ensures the_card_stays { card_held self.new ≡ card_held self.old }
         ensures is_a_step_of_the_history { Step (card_held self.old) (held self.old) (added care value result) (held self.new) }
+        ensures the_promise_holds_after_whatever_history_led_here { PromisedAfter (card_held self.old) (held self.old) (added care value result) (held self.new) }
         ensures the_law_of_jobs_holds { Stands (card_held self.new) (held self.new) }
     {
         self.table.add(care, value)
@@ -104,6 +110,7 @@ impl Job {
         ensures both_are_one_vector_under_its_new_number_or_nothing_changes { held self.new ≡ (if is_ok result then merging (held self.old) into gone else held self.old) }
         ensures the_card_stays { card_held self.new ≡ card_held self.old }
         ensures is_a_step_of_the_history { Step (card_held self.old) (held self.old) (merged into gone (granted result)) (held self.new) }
+        ensures the_promise_holds_after_whatever_history_led_here { PromisedAfter (card_held self.old) (held self.old) (merged into gone (granted result)) (held self.new) }
         ensures the_law_of_jobs_holds { Stands (card_held self.new) (held self.new) }
     {
         self.table.merge(into, gone)

@@ -9,16 +9,15 @@ ghost use Rattle.job.specs.Tables.{Led};
 
 use crate::shown::Marked;
 use crate::table::Table;
-use faults::model::FaultModel;
+use faults::response::Response;
 use history::mark::Mark;
 use history::refusal::VectorRefusal;
-use vectors::vector::Vector;
 
-// Whether a sweep by the vector marks the fault, which is in this state.
-fn sweep_marks(faults: &FaultModel, fault: usize, state: Marked, vector: &Vector) -> bool
-    ensures open_not_taken_and_caught { result ≡ (is_open state.mark && (not state.taken && catches_fault (modelled faults.now) fault (cells_of vector.now))) }
+// Whether a sweep by the response's vector marks the fault, which is in this state.
+fn sweep_marks(response: &Response, fault: usize, state: Marked) -> bool
+    ensures open_not_taken_and_caught { result ≡ (is_open state.mark && (not state.taken && catches_fault (modelled response.now.faults.now) fault (cells_of response.now.vector))) }
 {
-    state.mark.is_open() && !state.taken && faults.catches(fault, vector)
+    state.mark.is_open() && !state.taken && response.catches(fault)
 }
 
 impl Table {
@@ -26,10 +25,12 @@ impl Table {
         ensures leads_on { Led self.old (swept number result) self.new }
     {
         let vector = *self.vectors.get(number).ok_or(VectorRefusal::NoSuchVector)?;
+        // The good card is walked once for all faults.
+        let response = self.faults.response(&vector);
         // Counted by hand: the faults are marked while they are counted.
         let mut count = 0;
         for (fault, state) in self.states.iter_mut().enumerate() {
-            if sweep_marks(&self.faults, fault, *state, &vector) {
+            if sweep_marks(&response, fault, *state) {
                 state.mark = Mark::Detected(number);
                 count += 1;
             }
