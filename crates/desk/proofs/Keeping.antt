@@ -28,7 +28,7 @@ use Rattle.job.specs.declared.job.Job.{Job}
 use Rattle.job.specs.declared.ticket.Ticket.{Ticket}
 use Rattle.job.proofs.Tabled.{all_flagged}
 use Rattle.requests.specs.Running.{Runs}
-use Rattle.requests.specs.Serving.{Idle, Known, Meets, Serves, at, mine}
+use Rattle.requests.specs.Serving.{Idle, Known, Meets, Serves, Way, at, mine}
 use Rattle.requests.specs.declared.reply.Reply.{Reply}
 use Rattle.requests.specs.declared.request.Request.{Request}
 use Rattle.requests.specs.declared.request.Request.TheVariants.{Take, Search, Close, Sweep, Add, Merge}
@@ -123,21 +123,21 @@ closed_agree c v w ks ls i (Ok u) lt (granted, to) same m =
     (matches_closed v.taken (known_faults ks) (known_faults (remove ks i)) (at ks i).fault (close_able v (at ks i).fault u (sym granted)) (λ f. many_removed ks i f lt) m))
 closed_agree c v w ks ls i (Err e) lt (_, to) same m = agree_moved v w ks ls (ap (λ (x : View). x.taken) to) same m
 
-serves_agree : (c : Netlist) (v : View) (ks : List KnownTicket) (q : Request) (r : Reply) (h : History) (w : View) (ls : List KnownTicket) (m o : Model) → length v.taken ≡ fault_count c → Serves c v ks q r h w ls m o → Agree v ks → Agree w ls
-serves_agree c v ks (Take f) r h w ls m o long (a, (_, _, step, _), same) agree = took_agree c v w ks ls f a long step same agree
-serves_agree c v ks (Search i b) r h w ls m o long (same, how) agree =
+serves_agree : (way : Way) (c : Netlist) (v : View) (ks : List KnownTicket) (q : Request) (r : Reply) (h : History) (w : View) (ls : List KnownTicket) (m o : Model) → length v.taken ≡ fault_count c → Serves way c v ks q r h w ls m o → Agree v ks → Agree w ls
+serves_agree way c v ks (Take f) r h w ls m o long (a, (_, _, step, _), same) agree = took_agree c v w ks ls f a long step same agree
+serves_agree way c v ks (Search i b) r h w ls m o long (same, how) agree =
     ⊎_elim
-    (λ (p : (i < length ks) × ((a : Result Solved SearchRefusal) × Meets c v (searched (at ks i) b a) r h w m o)). agree_moved v w ks ls (searched_still c v w (at ks i) b p.1.0 p.1.1.2) same agree)
+    (λ (p : (i < length ks) × ((a : Result Solved SearchRefusal) × Meets way c v (searched (at ks i) b a) r h w m o)). agree_moved v w ks ls (searched_still c v w (at ks i) b p.1.0 p.1.1.2) same agree)
     (λ (p : (length ks ≤ i) × Idle v r h w m o). agree_moved v w ks ls (ap (λ (x : View). x.taken) p.1.2) same agree)
     how
-serves_agree c v ks (Close i) r h w ls m o long how agree =
+serves_agree way c v ks (Close i) r h w ls m o long how agree =
     ⊎_elim
-    (λ (p : (i < length ks) × ((a : Result (Unit {0}) CloseRefusal) × Meets c v (closed (at ks i) a) r h w m o × (ls ≡ cond (is_ok a) (remove ks i) ks))). closed_agree c v w ks ls i p.1.0 p.0 p.1.1.2 p.1.2 agree)
+    (λ (p : (i < length ks) × ((a : Result (Unit {0}) CloseRefusal) × Meets way c v (closed (at ks i) a) r h w m o × (ls ≡ cond (is_ok a) (remove ks i) ks))). closed_agree c v w ks ls i p.1.0 p.0 p.1.1.2 p.1.2 agree)
     (λ (p : (length ks ≤ i) × Idle v r h w m o × (ls ≡ ks)). agree_moved v w ks ls (ap (λ (x : View). x.taken) p.1.2) p.2 agree)
     how
-serves_agree c v ks (Sweep i) r h w ls m o long (same, (a, (_, _, (_, to), _))) agree = agree_moved v w ks ls (ap (λ (x : View). x.taken) to ∙ cond_still (is_ok a) _ v refl) same agree
-serves_agree c v ks (Add x y) r h w ls m o long (same, (a, (_, _, (_, to), _))) agree = agree_moved v w ks ls (ap (λ (z : View). z.taken) to ∙ cond_still (is_ok a) _ v refl) same agree
-serves_agree c v ks (Merge i j) r h w ls m o long (same, (a, (_, _, (_, to), _))) agree = agree_moved v w ks ls (ap (λ (x : View). x.taken) to ∙ cond_still (is_ok a) _ v refl) same agree
+serves_agree way c v ks (Sweep i) r h w ls m o long (same, (a, (_, _, (_, to), _))) agree = agree_moved v w ks ls (ap (λ (x : View). x.taken) to ∙ cond_still (is_ok a) _ v refl) same agree
+serves_agree way c v ks (Add x y) r h w ls m o long (same, (a, (_, _, (_, to), _))) agree = agree_moved v w ks ls (ap (λ (z : View). z.taken) to ∙ cond_still (is_ok a) _ v refl) same agree
+serves_agree way c v ks (Merge i j) r h w ls m o long (same, (a, (_, _, (_, to), _))) agree = agree_moved v w ks ls (ap (λ (x : View). x.taken) to ∙ cond_still (is_ok a) _ v refl) same agree
 
 -- ---- one request
 
@@ -150,14 +150,14 @@ noted_known : (ts : List Ticket) → Known (noted ts) ts
 noted_known [] = refl
 noted_known (t ∷ ts) = ap (λ (ns : List ℕ). t.fault ∷ ns) (noted_known ts)
 
-pub one_kept : (c : Netlist) (v w : View) (ts us : List Ticket) (q : Request) (rs : List Reply) (m o : Model) → length v.taken ≡ fault_count c → Reached c v → Runs c v ts (q ∷ []) rs w us m o → Kept v ts → Kept w us
-one_kept c v w ts us q rs m o long reached runs kept =
+pub one_kept : (way : Way) (c : Netlist) (v w : View) (ts us : List Ticket) (q : Request) (rs : List Reply) (m o : Model) → length v.taken ≡ fault_count c → Reached c v → Runs way c v ts (q ∷ []) rs w us m o → Kept v ts → Kept w us
+one_kept way c v w ts us q rs m o long reached runs kept =
     ∥∥₁_elim reached (Π_prop (λ f. hedberg ℕ_discrete _ _)) (λ (past : (h : History) × LeadsTo c h v).
     let e = runs.whatever_history_led_here_is_extended past.0 past.1 (noted ts) (noted_known ts) in
     let (_, _, u, ms, x, (_, _, there, all, _), (r, call, serves, _, _)) = e.each_request_was_served_in_turn in
     let before : Agree v (noted ts) = subst (Matches v.taken) (sym (noted_known ts)) kept in
     let first : Agree u ms = agree_moved v u (noted ts) ms (ap (λ (x : View). x.taken) there) all before in
-    let after : Agree w e.tickets = serves_agree c u ms q r call w e.tickets x o (ap (λ (x : View). length x.taken) there ∙ long) serves first in
+    let after : Agree w e.tickets = serves_agree way c u ms q r call w e.tickets x o (ap (λ (x : View). length x.taken) there ∙ long) serves first in
     subst (Matches w.taken) e.are_the_wallets_tickets after)
 
 -- every fault of a job has a flag
@@ -165,10 +165,10 @@ flags_long : (j : Job) → length (held j).taken ≡ fault_count (card_held j)
 flags_long j = all_flagged j.table
 
 -- a run of one request, or one that was not begun for want of room
-pub run_kept : {V E : Type 0} (replies : V → List Reply) (j k : Job) (ts us : List Ticket) (q : Request) (r : Result V E) (m o : Model) → IfOk r (λ (x : V). Runs (card_held j) (held j) ts (q ∷ []) (replies x) (held k) us m o)
+pub run_kept : {V E : Type 0} (way : Way) (replies : V → List Reply) (j k : Job) (ts us : List Ticket) (q : Request) (r : Result V E) (m o : Model) → IfOk r (λ (x : V). Runs way (card_held j) (held j) ts (q ∷ []) (replies x) (held k) us m o)
     → IfErr r (λ _. k ≡ j) → IfErr r (λ _. us ≡ ts) → Kept (held j) ts → Kept (held k) us
-run_kept replies j k ts us q (Ok x) m o runs _ _ kept = one_kept (card_held j) (held j) (held k) ts us q (replies x) m o (flags_long j) j.reached runs kept
-run_kept replies j k ts us q (Err e) m o _ same still kept = subst (Kept (held k)) (sym still) (subst (λ (i : Job). Kept (held i) ts) (sym same) kept)
+run_kept way replies j k ts us q (Ok x) m o runs _ _ kept = one_kept way (card_held j) (held j) (held k) ts us q (replies x) m o (flags_long j) j.reached runs kept
+run_kept way replies j k ts us q (Err e) m o _ same still kept = subst (Kept (held k)) (sym still) (subst (λ (i : Job). Kept (held i) ts) (sym same) kept)
 
 -- ---- the ends
 

@@ -1,4 +1,5 @@
 -- Tickets that are kept beside a job: each taken fault has exactly one of them, and no other fault has any.
+-- With this a caller may speak of a fault alone, and the desk finds its ticket.
 use Rattle.std.specs.Prelude.{◌≡◌, ℕ, ◌<◌, cond, List, map, length, count_by, nat_eq, slice_index}
 use Rattle.history.specs.Views.{View, is_taken}
 use Rattle.job.specs.declared.ticket.Ticket.{Ticket}

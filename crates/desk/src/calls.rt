@@ -45,14 +45,14 @@ impl Desk {
     }
 
     // Asks the job for the request, with the tickets and the solver, and answers what it got.
-    // Without room nothing is asked, and nothing changes. The solver changes by a granted search alone.
+    // Without room nothing is asked, and nothing changes. The solver changes by a granted search alone, which it answers in its own way.
     pub fn ask<S: Answering>(
         &mut self,
         heap: Global,
         solver: &mut S,
         request: Request,
     ) -> Result<Reply, AllocError>
-        ensures the_law_of_jobs_holds_over_every_history { IfOk result (λ reply. Runs (card_at self.old) (held_at self.old) (tickets_at self.old) (request ∷ []) (reply ∷ []) (held_at self.new) (tickets_at self.new) (S.Solver.model solver.old) (S.Solver.model solver.new)) }
+        ensures the_law_of_jobs_holds_over_every_history { IfOk result (λ reply. Runs S.Answering.answering (card_at self.old) (held_at self.old) (tickets_at self.old) (request ∷ []) (reply ∷ []) (held_at self.new) (tickets_at self.new) (S.Solver.model solver.old) (S.Solver.model solver.new)) }
         ensures the_card_stays { card_at self.new ≡ card_at self.old }
         ensures without_room_the_job_stays { OnErr result (held_at self.new ≡ held_at self.old) }
         ensures without_room_the_solver_stays { OnErr result (solver.new ≡ solver.old) }

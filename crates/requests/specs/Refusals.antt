@@ -1,4 +1,5 @@
 -- The number of every refusal that a request can meet.
+-- It is the number of the job's own refusal; a request for a ticket that the wallet does not hold is no refusal and has none.
 use Rattle.std.specs.Prelude.{ℕ}
 use Rattle.history.specs.Refusals.{add_number, close_number, merge_number, search_number, take_number, vector_number}
 use Rattle.requests.specs.declared.refusal.Refusal.{Refusal}

@@ -1,11 +1,14 @@
 -- One request: the call that it comes to, what is answered, and the tickets and the solver afterwards. Of a solver, m is what it held
--- before and o what it holds after.
+-- before and o what it holds after; its way is what a solver of its kind may answer.
 -- A request for a ticket that the wallet does not have comes to no call.
-use Rattle.std.specs.Prelude.{◌≡◌, ℕ, zero, suc, ◌<◌, ◌≤◌, true, cond, ◌⊎◌, List, [], ◌∷◌, ◌++◌, map, length, is_ok, Ok, Err, Result, slice_index_or}
+use Rattle.std.specs.Prelude.{◌≡◌, ℕ, zero, suc, ◌<◌, ◌≤◌, true, cond, ◌⊎◌, List, [], ◌∷◌, ◌++◌, map, length, is_ok, Some, Ok, Err, Result, slice_index_or}
 use Rattle.std.specs.List.{remove}
 use Rattle.card.specs.Netlists.{Netlist}
+use Rattle.signal.specs.declared.line.Stuck.{Stuck}
+use Rattle.faults.specs.Sites.{stuck_of}
 use Rattle.solving.specs.Models.{Model}
 use Rattle.solving.specs.declared.verdict.Solved.{Solved}
+use Rattle.formula.specs.Posing.{holds_formula}
 use Rattle.history.specs.Histories.{History}
 use Rattle.history.specs.Steps.{Event, KnownTicket, Searched, Step, added, closed, merged, searched, swept, took}
 use Rattle.history.specs.Views.{View}
@@ -50,46 +53,52 @@ mine f = record { fault = f; own = true }
 abbrev pub at : List KnownTicket → ℕ → KnownTicket
 at ts i = slice_index_or ts i (mine 0)
 
--- the tickets of the wallet, one by one, each with whether it is the job's own
+-- the tickets of the wallet, one by one, each with any word on whose it is
 abbrev pub Known : List KnownTicket → List Ticket → Type 0
 Known ks ts = map (λ (k : KnownTicket). k.fault) ks ≡ map (λ (t : Ticket). t.fault) ts
 
--- what a call leaves of the solver: a granted search has it answer on the fault's formula, which it holds afterwards, with the reading
--- if it found one; no other call changes it, and no refused one
-abbrev pub Leaves : Netlist → View → Event → View → Model → Model → Type 0
-Leaves c v (took f a) w m o = o ≡ m
-Leaves c v (searched t b (Ok s)) w m o = Searched c v t.fault b s o w
-Leaves c v (searched t b (Err e)) w m o = o ≡ m
-Leaves c v (closed t a) w m o = o ≡ m
-Leaves c v (swept i a) w m o = o ≡ m
-Leaves c v (added x y a) w m o = o ≡ m
-Leaves c v (merged i j a) w m o = o ≡ m
+-- the way of a kind of solver: from what it held and the budget, the answer and what it holds then
+abbrev pub Way : Type 1
+Way = Model → ℕ → Solved → Model → Type 0
 
--- the request comes to this call
-abbrev pub Meets : Netlist → View → Event → Reply → History → View → Model → Model → Type 0
-Meets c v e r h w m o = (h ≡ e ∷ []) × (r ≡ reply_of e) × Step c v e w × Leaves c v e w m o
-
--- or to none
+-- the request comes to no call
 abbrev pub Idle : View → Reply → History → View → Model → Model → Type 0
 Idle v r h w m o = (h ≡ []) × (r ≡ reply.NoTicket) × (w ≡ v) × (o ≡ m)
 
-abbrev pub Serves : Netlist → View → List KnownTicket → Request → Reply → History → View → List KnownTicket → Model → Model → Type 0
-Serves c v ks (Take f) r h w ls m o = (a : Result (Unit {0}) TakeRefusal) × Meets c v (took f a) r h w m o × (ls ≡ cond (is_ok a) (ks ++ (mine f ∷ [])) ks)
-Serves c v ks (Search i b) r h w ls m o = (ls ≡ ks) × (((i < length ks) × ((a : Result Solved SearchRefusal) × Meets c v (searched (at ks i) b a) r h w m o)) ⊎ ((length ks ≤ i) × Idle v r h w m o))
-Serves c v ks (Close i) r h w ls m o =
-    ((i < length ks) × ((a : Result (Unit {0}) CloseRefusal) × Meets c v (closed (at ks i) a) r h w m o × (ls ≡ cond (is_ok a) (remove ks i) ks)))
-    ⊎ ((length ks ≤ i) × Idle v r h w m o × (ls ≡ ks))
-Serves c v ks (Sweep i) r h w ls m o = (ls ≡ ks) × ((a : Result ℕ VectorRefusal) × Meets c v (swept i a) r h w m o)
-Serves c v ks (Add x y) r h w ls m o = (ls ≡ ks) × ((a : Result ℕ AddRefusal) × Meets c v (added x y a) r h w m o)
-Serves c v ks (Merge i j) r h w ls m o = (ls ≡ ks) × ((a : Result (Unit {0}) MergeRefusal) × Meets c v (merged i j a) r h w m o)
+module _ (way : Way) where
+  -- what a call leaves of the solver: a granted search has it answer in its own way on the fault's formula, which it holds afterwards,
+  -- with the reading if it found one; no other call changes it, and no refused one
+  abbrev pub Leaves : Netlist → View → Event → View → Model → Model → Type 0
+  Leaves c v (took f a) w m o = o ≡ m
+  Leaves c v (searched t b (Ok s)) w m o = Searched c v t.fault b s o w × ((line : Stuck) → stuck_of c t.fault ≡ Some line → way (holds_formula c line) b s o)
+  Leaves c v (searched t b (Err e)) w m o = o ≡ m
+  Leaves c v (closed t a) w m o = o ≡ m
+  Leaves c v (swept i a) w m o = o ≡ m
+  Leaves c v (added x y a) w m o = o ≡ m
+  Leaves c v (merged i j a) w m o = o ≡ m
 
--- the first n requests were served in turn, and these are the replies; the solver held m before them all and holds o after
-abbrev pub Served : Netlist → View → List KnownTicket → List Request → ℕ → List Reply → History → View → List KnownTicket → Model → Model → Type 0
-Served c v ks qs zero rs h w ls m o = (rs ≡ []) × (h ≡ []) × (w ≡ v) × (ls ≡ ks) × (o ≡ m)
-Served c v ks qs (suc n) rs h w ls m o =
-    (earlier : List Reply) × (past : History) × (u : View) × (ms : List KnownTicket) × (x : Model) × Served c v ks qs n earlier past u ms m x
-    × ((r : Reply) × (call : History) × Serves c u ms (slice_index_or qs n (Take 0)) r call w ls x o × (rs ≡ earlier ++ (r ∷ [])) × (h ≡ call ++ past))
+  -- the request comes to this call
+  abbrev pub Meets : Netlist → View → Event → Reply → History → View → Model → Model → Type 0
+  Meets c v e r h w m o = (h ≡ e ∷ []) × (r ≡ reply_of e) × Step c v e w × Leaves c v e w m o
+
+  abbrev pub Serves : Netlist → View → List KnownTicket → Request → Reply → History → View → List KnownTicket → Model → Model → Type 0
+  Serves c v ks (Take f) r h w ls m o = (a : Result (Unit {0}) TakeRefusal) × Meets c v (took f a) r h w m o × (ls ≡ cond (is_ok a) (ks ++ (mine f ∷ [])) ks)
+  Serves c v ks (Search i b) r h w ls m o =
+      (ls ≡ ks) × (((i < length ks) × ((a : Result Solved SearchRefusal) × Meets c v (searched (at ks i) b a) r h w m o)) ⊎ ((length ks ≤ i) × Idle v r h w m o))
+  Serves c v ks (Close i) r h w ls m o =
+      ((i < length ks) × ((a : Result (Unit {0}) CloseRefusal) × Meets c v (closed (at ks i) a) r h w m o × (ls ≡ cond (is_ok a) (remove ks i) ks)))
+      ⊎ ((length ks ≤ i) × Idle v r h w m o × (ls ≡ ks))
+  Serves c v ks (Sweep i) r h w ls m o = (ls ≡ ks) × ((a : Result ℕ VectorRefusal) × Meets c v (swept i a) r h w m o)
+  Serves c v ks (Add x y) r h w ls m o = (ls ≡ ks) × ((a : Result ℕ AddRefusal) × Meets c v (added x y a) r h w m o)
+  Serves c v ks (Merge i j) r h w ls m o = (ls ≡ ks) × ((a : Result (Unit {0}) MergeRefusal) × Meets c v (merged i j a) r h w m o)
+
+  -- the first n requests were served in turn, and these are the replies; the solver held m before them all and holds o after
+  abbrev pub Served : Netlist → View → List KnownTicket → List Request → ℕ → List Reply → History → View → List KnownTicket → Model → Model → Type 0
+  Served c v ks qs zero rs h w ls m o = (rs ≡ []) × (h ≡ []) × (w ≡ v) × (ls ≡ ks) × (o ≡ m)
+  Served c v ks qs (suc n) rs h w ls m o =
+      (earlier : List Reply) × (past : History) × (u : View) × (ms : List KnownTicket) × (x : Model) × Served c v ks qs n earlier past u ms m x
+      × ((r : Reply) × (call : History) × Serves c u ms (slice_index_or qs n (Take 0)) r call w ls x o × (rs ≡ earlier ++ (r ∷ [])) × (h ≡ call ++ past))
 
 -- one request was served, whoever gave the tickets
-pub record One (c : Netlist) (v : View) (ts : List Ticket) (q : Request) (r : Reply) (w : View) (us : List Ticket) (m o : Model) : Type 0 where
-  pub serves : (ks : List KnownTicket) → Known ks ts → (h : History) × (ls : List KnownTicket) × (Known ls us × Serves c v ks q r h w ls m o)
+pub record One (way : Way) (c : Netlist) (v : View) (ts : List Ticket) (q : Request) (r : Reply) (w : View) (us : List Ticket) (m o : Model) : Type 0 where
+  pub serves : (ks : List KnownTicket) → Known ks ts → (h : History) × (ls : List KnownTicket) × (Known ls us × Serves way c v ks q r h w ls m o)

@@ -1,5 +1,6 @@
 // One request, asked of the job.
 ghost use Rattle.std.specs.Prelude.{◌≡◌, ◌+◌, ◌<◌, ◌≤◌, vec_len, vec_capacity};
+ghost use Rattle.solving.specs.Answers.{Answers};
 ghost use Rattle.solving.specs.Models.{Model};
 ghost use Rattle.job.specs.Jobs.{card_held, held};
 ghost use Rattle.requests.specs.Serving.{One, replied};
@@ -12,9 +13,9 @@ use crate::wallet::put_back;
 use job::{Back, Job, Ticket};
 use ways::Answering;
 
-// Closes the ticket at this place; a ticket that is handed back returns to it.
+// Closes the ticket at this place; a ticket that is handed back returns to it. No solver is asked, so the contract holds of any.
 fn close(job: &mut Job, wallet: &mut Vec<Ticket>, place: usize) -> Result<Reply, Refusal>
-    ensures served { (m : Model) → One (card_held job.old) (held job.old) wallet.old.items (Closes place) (replied result) (held job.new) wallet.new.items m m }
+    ensures served { (m : Model) → One Answers (card_held job.old) (held job.old) wallet.old.items (Closes place) (replied result) (held job.new) wallet.new.items m m }
     ensures card_stays { card_held job.new ≡ card_held job.old }
     ensures none_more { vec_len wallet.new ≤ vec_len wallet.old }
     ensures room_stays { vec_capacity wallet.old ≤ vec_capacity wallet.new }
@@ -41,7 +42,7 @@ fn answer<S: Answering>(
     request: Request,
 ) -> Result<Reply, Refusal>
     requires room { vec_len wallet.old < vec_capacity wallet.old }
-    ensures served { One (card_held job.old) (held job.old) wallet.old.items request (replied result) (held job.new) wallet.new.items (S.Solver.model solver.old) (S.Solver.model solver.new) }
+    ensures served { One S.Answering.answering (card_held job.old) (held job.old) wallet.old.items request (replied result) (held job.new) wallet.new.items (S.Solver.model solver.old) (S.Solver.model solver.new) }
     ensures card_stays { card_held job.new ≡ card_held job.old }
     ensures at_most_one_more { vec_len wallet.new ≤ vec_len wallet.old + 1 }
     ensures room_stays { vec_capacity wallet.old ≤ vec_capacity wallet.new }
@@ -75,7 +76,7 @@ pub(crate) fn serve<S: Answering>(
     request: Request,
 ) -> Reply
     requires room { vec_len wallet.old < vec_capacity wallet.old }
-    ensures served { One (card_held job.old) (held job.old) wallet.old.items request result (held job.new) wallet.new.items (S.Solver.model solver.old) (S.Solver.model solver.new) }
+    ensures served { One S.Answering.answering (card_held job.old) (held job.old) wallet.old.items request result (held job.new) wallet.new.items (S.Solver.model solver.old) (S.Solver.model solver.new) }
     ensures card_stays { card_held job.new ≡ card_held job.old }
     ensures at_most_one_more { vec_len wallet.new ≤ vec_len wallet.old + 1 }
     ensures room_stays { vec_capacity wallet.old ≤ vec_capacity wallet.new }

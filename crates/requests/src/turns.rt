@@ -12,7 +12,7 @@ use ways::Answering;
 
 // Asks the job for each request, with the wallet's tickets and the solver, and answers what each got.
 // Room for every ticket and reply is asked for first: without it nothing is asked of the job, and nothing changes.
-// The solver changes by granted searches alone, each of which leaves it the formula of its fault.
+// The solver changes by granted searches alone: each is answered by the solver, in its own way, on the formula of its fault.
 // The wallet is no part of the job, since it may hold tickets that another job gave. That the card stays is said of each
 // call: no type says of a job that is lent that it was not exchanged for another.
 pub fn run<S: Answering>(
@@ -22,7 +22,7 @@ pub fn run<S: Answering>(
     wallet: &mut Vec<Ticket>,
     requests: &[Request],
 ) -> Result<Vec<Reply>, AllocError>
-    ensures the_law_of_jobs_holds_over_every_history { IfOk result (λ replies. Runs (card_held job.old) (held job.old) wallet.old.items requests.now replies.items (held job.new) wallet.new.items (S.Solver.model solver.old) (S.Solver.model solver.new)) }
+    ensures the_law_of_jobs_holds_over_every_history { IfOk result (λ replies. Runs S.Answering.answering (card_held job.old) (held job.old) wallet.old.items requests.now replies.items (held job.new) wallet.new.items (S.Solver.model solver.old) (S.Solver.model solver.new)) }
     ensures the_card_stays { card_held job.new ≡ card_held job.old }
     ensures without_room_the_job_stays { OnErr result (job.new ≡ job.old) }
     ensures without_room_the_solver_stays { OnErr result (solver.new ≡ solver.old) }
