@@ -11,14 +11,16 @@ use Rattle.card.specs.Netlists.{Lawful, Netlist}
 use Rattle.vectors.specs.Vectors.{Cells}
 use Rattle.faults.specs.Sites.{fault_count}
 use Rattle.faults.proofs.Sited.{few_sites}
-use Rattle.tester.proofs.Truths.{truthful}
+use Rattle.tester.specs.Characters.{characters}
+use Rattle.tester.proofs.Showing.{length_characters}
+use Rattle.tester.proofs.Truths.{good_nets_carry, truthful}
 use Rattle.history.specs.Histories.{History, LeadsTo}
 use Rattle.history.specs.Promises.{Promise, Stands}
 use Rattle.history.specs.Views.{View, blank, is_detected, is_open, is_untestable, mark, most, vector_at}
 use Rattle.history.specs.declared.mark.Mark.{Mark}
 use Rattle.history.specs.declared.mark.Mark.TheVariants.{Open, Detected, Untestable}
-use Rattle.report.specs.Lines.{fault_line, fault_rows, head_line, numbered, open_line, sheet_lines, sheet_of, untestable_line, vector_line, vector_rows}
-use Rattle.report.specs.Truths.{Among, Says, ShownByAPrintedVector, Tells, TellsTheTruth, lines}
+use Rattle.report.specs.Lines.{ended, fault_line, fault_rows, head_line, numbered, open_line, sheet_lines, sheet_of, sheet_text, untestable_line, vector_line, vector_rows}
+use Rattle.report.specs.Truths.{Among, Says, ShownByAPrintedVector, Tells, TellsTheTruth, TrueOfAVector, lines}
 use Rattle.report.proofs.Breaks.{sheet_lines_lem}
 
 -- ---- lines among lines
@@ -117,6 +119,32 @@ vector_says c i n k [] e l = absurd (omega arith)
 vector_says c i n zero (v ∷ vs) e l = let z : i ≡ n = omega arith in inl (ap (λ (j : ℕ). vector_line c j v) z)
 vector_says c i n (suc k) (v ∷ vs) e l = inr (vector_says c i (suc n) k vs (omega arith) (omega arith))
 
+-- every line of a vector is true of it
+vector_line_true : (c : Netlist) → Lawful c → (n : ℕ) (vs : List Cells) (line : List ℕ) → Among line (numbered (vector_rows c) n vs) → TrueOfAVector c line
+vector_line_true c law n [] line h = absurd h
+vector_line_true c law n (v ∷ vs) line (inl e) = record {
+  number = n;
+  cells = v;
+  shown = characters c v;
+  is_the_line = e;
+  one_for_each_output = length_characters c v;
+  a_bit_is_what_every_filling_makes = truthful c v law (good_nets_carry c v);
+}
+vector_line_true c law n (v ∷ vs) line (inr h) = vector_line_true c law (suc n) vs line h
+
+-- no line of a fault begins with v
+fault_first : (f : ℕ) (m : Mark) (line : List ℕ) → Among line (fault_rows f m) → get_or line 0 0 ≡ 0x76 → ⊥
+fault_first f Open line (inl k) e = let z : ◌≡◌ {A = ℕ} 102 118 = sym (ap (λ l. get_or l 0 0) k) ∙ e in omega (arith, z)
+fault_first f Open line (inr h) e = h
+fault_first f (Detected v) line h e = h
+fault_first f Untestable line (inl k) e = let z : ◌≡◌ {A = ℕ} 102 118 = sym (ap (λ l. get_or l 0 0) k) ∙ e in omega (arith, z)
+fault_first f Untestable line (inr h) e = h
+
+no_fault : (n : ℕ) (ms : List Mark) (line : List ℕ) → Among line (numbered fault_rows n ms) → get_or line 0 0 ≡ 0x76 → ⊥
+no_fault n [] line h e = h
+no_fault n (m ∷ ms) line h e =
+    ⊎_elim (λ a. fault_first n m line a e) (λ a. no_fault (suc n) ms line a e) (among_parts line (fault_rows n m) (numbered fault_rows (suc n) ms) h)
+
 -- ---- how many faults and vectors a job holds
 
 kinds : (ms : List Mark) → count_by is_open ms + count_by is_detected ms + count_by is_untestable ms ≡ length ms
@@ -164,10 +192,30 @@ module _ (c : Netlist) (v : View) (law : Lawful c) (s : Stands c v) where
       let line = vector_line c i (vector_at v i) in
       subst (Among line) (sym held_lines) (inr (among_left line (numbered (vector_rows c) 0 v.vectors) (numbered fault_rows 0 v.marks) (vector_says c i 0 i v.vectors (omega arith) h)))
 
+  whole : ended (sheet_lines c v.marks v.vectors) ≡ sheet_of c v
+  unfolding sheet_text
+  whole = refl
+
+  head_said : Says (sheet_of c v) (head_line (fault_count c) (count_by is_detected v.marks) (count_by is_untestable v.marks) (count_by is_open v.marks))
+  head_said =
+      let line : ℕ → List ℕ = λ n. head_line n (count_by is_detected v.marks) (count_by is_untestable v.marks) (count_by is_open v.marks) in
+      subst (Among (line (fault_count c))) (sym held_lines) (inl (ap line (sym (all_faults c v s))))
+
+  -- a line that begins with v is that of a vector
+  sheet_line_true : (line : List ℕ) → get_or line 0 0 ≡ 0x76 → Among line (sheet_lines c v.marks v.vectors) → TrueOfAVector c line
+  sheet_line_true line e (inl k) = absurd (let z : ◌≡◌ {A = ℕ} 102 118 = sym (ap (λ l. get_or l 0 0) k) ∙ e in omega (arith, z))
+  sheet_line_true line e (inr h) =
+      ⊎_elim
+      (λ a. vector_line_true c law 0 v.vectors line a)
+      (λ a. absurd (no_fault 0 v.marks line a e))
+      (among_parts line (numbered (vector_rows c) 0 v.vectors) (numbered fault_rows 0 v.marks) h)
+
   pub tells : Tells c v (sheet_of c v)
   tells =
       record {
         has_these_lines_and_no_others = held_lines;
+        ends_with_its_last_line = ap ended held_lines ∙ whole;
+        counts_the_marks_of_the_cards_faults = head_said;
         calls_a_fault_untestable_exactly_if_it_is_marked_so = λ f h. says f Untestable refl h;
         calls_a_fault_open_exactly_if_it_is_marked_so = λ f h. says f Open refl h;
         has_a_line_for_each_vector = listed;
@@ -188,5 +236,5 @@ module _ (c : Netlist) (v : View) (law : Lawful c) (s : Stands c v) where
       record {
         no_setting_shows_a_fault_called_untestable = λ f h t line e bits shows. ∥∥₁_elim s ⊥_prop (λ w. w.2.no_setting_shows_an_untestable_fault f ((says f Untestable refl h).0 t) line e bits shows);
         a_printed_vector_shows_a_fault_that_has_no_line = λ f h. shown f (mark v f) refl h;
-        every_filling_makes_the_bits_printed_for_the_outputs = λ number cells t. truthful c cells law;
+        every_filling_makes_the_bits_printed_for_the_outputs = λ line t e. sheet_line_true line e (subst (Among line) held_lines t);
       }

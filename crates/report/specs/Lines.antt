@@ -1,4 +1,5 @@
 -- The text of a sheet: its lines, and the bytes that they make. Fields of a line are separated by one space.
+-- Numbers are decimal, without leading zeros; cells and outputs are the characters 0, 1 and X.
 use Rattle.std.specs.Prelude.{ℕ, suc, List, [], ◌∷◌, ◌++◌, length, codes, decimal, count_by}
 use Rattle.card.specs.Netlists.{Netlist}
 use Rattle.reading.specs.Refusals.{refusal_line}

@@ -1,16 +1,10 @@
 -- A worked sheet: card B, whose output always equals input 0, with four untestable faults.
 use Rattle.std.specs.Prelude.{◌≡◌, List, [], ◌∷◌, codes}
-use Rattle.card.specs.declared.function.Function.TheVariants.{And2, Or2}
-use Rattle.card.specs.declared.gate.Operands.TheVariants.{Two}
-use Rattle.card.specs.Netlists.{Netlist}
 use Rattle.vectors.specs.Vectors.{Cells, holding}
+use Rattle.formula.specs.CardB.{card_b}
 use Rattle.history.specs.declared.mark.Mark.{Mark}
 use Rattle.history.specs.declared.mark.Mark.TheVariants.{Detected, Untestable}
 use Rattle.report.specs.Lines.{ended, refusal_text, sheet_text}
-
--- inputs 0 and 1, net 2 AND2(0, 1), net 3 OR2(0, 2), output 3
-abbrev pub card_b : Netlist
-card_b = record { inputs = 2; gates = record { function = And2; operands = Two 0 1 } ∷ record { function = Or2; operands = Two 0 2 } ∷ []; outputs = 3 ∷ [] }
 
 -- the marks of its faults 0 to 11
 abbrev pub marks_b : List Mark

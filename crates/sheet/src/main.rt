@@ -20,6 +20,9 @@ struct Meter<'a> {
 const SECONDS: u64 = 5;
 
 impl Progress for Meter<'_> {
+    // What it says on standard error no contract knows.
+    ghost tells = { λ _ _ _ _. Unit {0} };
+
     fn begin(&mut self, fault: usize, faults: usize) {
         let Ok(waited) = self.since.elapsed(self.rt) else {
             return;

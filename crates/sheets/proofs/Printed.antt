@@ -1,5 +1,5 @@
 -- What is put into the buffer is the text for the card bytes, and it fits.
-use Rattle.std.proofs.Common.{◌≡◌, ℕ, ◌≤◌, List, ◌++◌, length, drop, IfOk, Some, None, Ok, Err, Result, sym, ap, ◌∙◌, subst, arith, MatchResult}
+use Rattle.std.proofs.Common.{◌≡◌, ℕ, ◌≤◌, List, ◌++◌, length, drop, IfErr, IfOk, Some, None, Ok, Err, Result, sym, ap, ◌∙◌, subst, arith, MatchResult}
 use Rattle.card.specs.Netlists.{Netlist}
 use Rattle.reading.specs.Reading.{reading}
 use Rattle.reading.specs.Refusals.{refusal_number, refusal_offset}
@@ -7,6 +7,7 @@ use Rattle.reading.specs.Rules.{Accepted}
 use Rattle.reading.specs.declared.fault.CardFault.{CardFault}
 use Rattle.reading.specs.declared.fault.CardFault.TheVariants as card
 use Rattle.reading.proofs.Ruled.{agree}
+use Rattle.faults.specs.Sites.{fault_count}
 use Rattle.history.specs.Views.{View}
 use Rattle.job.specs.Jobs.{card_held, held}
 use Rattle.job.specs.declared.job.Job.{Job}
@@ -19,6 +20,7 @@ use Rattle.report.proofs.Telling.{few_faults, few_vectors}
 use Rattle.sheets.specs.Printing.{Prints, fault_for, text_for}
 use Rattle.sheets.specs.Putting.{Put, Puts}
 use Rattle.sheets.specs.Refusals.{sheet_fault_of}
+use Rattle.sheets.specs.Telling.{Told, ToldFor}
 use Rattle.sheets.specs.Working.{sheet_view}
 use Rattle.sheets.specs.declared.fault.SheetFault.{SheetFault}
 use Rattle.sheets.specs.declared.fault.SheetFault.TheVariants.{Card, Memory, Room}
@@ -116,3 +118,21 @@ told bytes before after (Err (Card f)) (Ok s) prepared (put, carried, short) =
 told bytes before after (Err Memory) (Ok s) prepared puts = absurd puts
 told bytes before after (Err Room) (Ok s) prepared puts = absurd puts
 told bytes before after p (Err e) prepared puts = tt
+
+-- ---- what was told
+
+module _ {X : Type 0} (tells : X → ℕ → ℕ → X → Type 0) (bytes before after : List ℕ) (x y : X) where
+  -- a sheet came of a job, which was told of, or of a bad card, of which nothing was
+  pub told_for : (p : Result Job SheetFault) (r : Result Sheet SheetFault) → Prepares bytes p → Puts p before r after → IfOk p (λ j. Told tells (fault_count (card_held j)) (fault_count (card_held j)) x y) → IfErr p (λ _. y ≡ x)
+      → IfOk r (λ s. ToldFor tells (reading bytes) x y)
+  told_for (Ok j) (Ok s) (reads, _) puts each _ = subst (λ (r : Result Netlist CardFault). ToldFor tells r x y) (sym reads) each
+  told_for (Err (Card f)) (Ok s) prepared puts _ none = let (g, reads, is) = prepared (card_memory f) in subst (λ (r : Result Netlist CardFault). ToldFor tells r x y) (sym reads) none
+  told_for (Err Memory) (Ok s) prepared puts _ none = absurd puts
+  told_for (Err Room) (Ok s) prepared puts _ none = absurd puts
+  told_for p (Err e) prepared puts each none = tt
+
+  -- no sheet came, so there was no job
+  pub told_nothing : (p : Result Job SheetFault) (r : Result Sheet SheetFault) → Puts p before r after → IfErr p (λ _. y ≡ x) → IfErr r (λ _. y ≡ x)
+  told_nothing p (Ok s) puts none = tt
+  told_nothing (Ok j) (Err e) puts none = absurd puts
+  told_nothing (Err f) (Err e) puts none = none

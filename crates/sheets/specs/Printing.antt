@@ -1,4 +1,5 @@
 -- What is printed for card bytes: the sheet of the card that they spell, or the line that says why they spell none.
+-- One text for every run of bytes; the call `sheet` writes it, answers its length, and leaves the bytes behind it.
 use Rattle.std.specs.Prelude.{◌≡◌, ℕ, ◌≤◌, List, ◌++◌, length, drop, Some, None, Ok, Err, Option, Result}
 use Rattle.card.specs.Netlists.{Netlist}
 use Rattle.reading.specs.Reading.{reading}

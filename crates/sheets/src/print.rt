@@ -1,6 +1,7 @@
 // Printing a sheet into a buffer that the caller lends.
 ghost use Rattle.std.specs.Prelude.{◌≡◌, ◌≤◌, ◌⊎◌, length, IfOk, IfErr, Ok, Err, Decides, MatchResult, OnErr, ◌≢◌, nat_lt};
 ghost use Rattle.card.specs.Netlists.{Netlist};
+ghost use Rattle.faults.specs.Sites.{fault_count};
 ghost use Rattle.reading.specs.Reading.{reading};
 ghost use Rattle.reading.specs.Rules.{Accepted};
 ghost use Rattle.reading.specs.declared.fault.CardFault.{CardFault as FaultOfCard};
@@ -9,6 +10,7 @@ ghost use Rattle.report.specs.Limits.{sheet_room};
 ghost use Rattle.sheets.specs.Printing.{Prints};
 ghost use Rattle.sheets.specs.Putting.{Puts, Worked};
 ghost use Rattle.sheets.specs.Refusals.{sheet_fault_of};
+ghost use Rattle.sheets.specs.Telling.{Told, ToldFor};
 ghost use Rattle.sheets.specs.Working.{sheet_view};
 ghost use Rattle.sheets.specs.declared.fault.SheetFault.TheVariants.{Memory as OfMemory, Room as OfRoom};
 
@@ -29,6 +31,8 @@ pub const SHEET_ROOM: usize = 65_536;
 fn prepare<P: Progress>(heap: Global, bytes: &[u8], progress: &mut P) -> Result<Job, SheetFault>
     ensures worked_on_the_card_or_names_the_fault { MatchResult result (λ j. (reading bytes.now ≡ Ok (card_held j)) × (held j ≡ sheet_view (card_held j))) (λ e. (e ≢ OfMemory) → (f : FaultOfCard) × (reading bytes.now ≡ Err f) × (e ≡ sheet_fault_of f)) }
     ensures want_of_memory_refuses_only_bytes_that_spell_a_card { result ≡ Err OfMemory → (n : Netlist) × Accepted bytes.now n }
+    ensures tells_of_each_fault { IfOk result (λ j. Told P.tells (fault_count (card_held j)) (fault_count (card_held j)) progress.old progress.new) }
+    ensures tells_nothing_without_a_job { OnErr result (progress.new ≡ progress.old) }
 {
     let card = from_bytes(heap, bytes)?;
     let mut job = Job::open(heap, card)?;
@@ -70,6 +74,8 @@ pub fn sheet<P: Progress>(
     ensures refused_for_nothing_but_room_or_memory { IfErr result (λ e. ((e ≡ OfRoom) ⊎ (e ≡ OfMemory))) }
     ensures want_of_memory_refuses_only_bytes_that_spell_a_card { result ≡ Err OfMemory → (n : Netlist) × Accepted bytes.now n }
     ensures a_refusal_leaves_the_buffer { OnErr result (buffer.new ≡ buffer.old) }
+    ensures tells_of_each_fault_rising_and_of_none_for_a_bad_card { IfOk result (λ s. ToldFor P.tells (reading bytes.now) progress.old progress.new) }
+    ensures a_refusal_tells_nothing { OnErr result (progress.new ≡ progress.old) }
     ensures prints_the_sheet_and_it_tells_the_truth { IfOk result (λ s. Prints bytes.now buffer.old buffer.new s) }
 {
     if buffer.len() < SHEET_ROOM {

@@ -3,6 +3,7 @@ ghost use Rattle.std.specs.Prelude.{◌≡◌, ◌<◌};
 ghost use Rattle.faults.specs.Sites.{fault_count};
 ghost use Rattle.history.specs.Views.{new_view};
 ghost use Rattle.job.specs.Jobs.{card_held, held};
+ghost use Rattle.sheets.specs.Telling.{Told};
 ghost use Rattle.sheets.specs.Working.{NoneTaken, sheet_view, working};
 
 use crate::progress::Progress;
@@ -36,6 +37,7 @@ fn work_on(job: &mut Job, solver: &mut Backtracking, fault: usize)
 pub(crate) fn work<P: Progress>(job: &mut Job, solver: &mut Backtracking, progress: &mut P)
     requires new { held job.old ≡ new_view (card_held job.old) }
     ensures reaches_what_is_defined { held job.new ≡ sheet_view (card_held job.old) }
+    ensures tells_of_each_fault { Told P.tells (fault_count (card_held job.old)) (fault_count (card_held job.old)) progress.old progress.new }
     ensures card_stays { card_held job.new ≡ card_held job.old }
 {
     let faults = job.marks().len();

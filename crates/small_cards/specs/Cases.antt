@@ -1,8 +1,9 @@
 -- The worked cases as one group, each by the definitions that the contracts of the calls use.
 use Rattle.std.specs.Prelude.{◌≡◌, ℕ, true, false, List, [], ◌∷◌, ◌++◌, length, replicate, Some, Ok, Err}
-use Rattle.card.specs.Netlists.{Netlist}
 use Rattle.card.specs.Parts.{netlist_from, smallest}
 use Rattle.reading.specs.Reading.{reading}
+use Rattle.reading.specs.Refusals.{refusal_number, refusal_offset}
+use Rattle.reading.specs.declared.fault.CardFault.{CardFault}
 use Rattle.reading.specs.declared.fault.CardFault.TheVariants.{Ended, Incomplete, Limit, NamedTwice, Operand}
 use Rattle.reading.specs.declared.fault.OperandFault.TheVariants.{Undeclared}
 use Rattle.signal.specs.declared.line.Line.TheVariants.{Pin}
@@ -14,22 +15,29 @@ use Rattle.faults.specs.Sites.{fault_count, stuck_of}
 use Rattle.faults.specs.Thinning.{thinned}
 use Rattle.formula.specs.Formulas.{formula_of}
 use Rattle.formula.specs.Variables.{variables}
-use Rattle.small_cards.specs.Cards.{bytes_a, bytes_b, c17, card_a, card_b, cut_b, net_one_at_zero, net_three_at_one, net_zero_at_zero}
+use Rattle.small_cards.specs.Cards.{bytes_a, bytes_b, bytes_c17, c17, card_a, card_b, cut_b, net_one_at_zero, net_three_at_one, net_zero_at_zero}
 use Rattle.small_cards.specs.Jobs.{Jobs}
 use Rattle.small_cards.specs.Searches.{Searches}
 use Rattle.small_cards.specs.Sheets.{Sheets}
+
+-- these bytes are refused for this fault, which has this number and this offset
+pub record RefusedBy (bytes : List ℕ) (fault : CardFault) (number offset : ℕ) : Type 0 where
+  pub reads : reading bytes ≡ Err fault
+  pub has_the_number : refusal_number fault ≡ number
+  pub has_the_offset : refusal_offset fault ≡ offset
 
 -- reading, and where it refuses
 pub record Readings : Type 0 where
   pub a : reading bytes_a ≡ Ok card_a
   pub b : reading bytes_b ≡ Ok card_b
-  pub b_without_its_end : reading cut_b ≡ Err (Ended 15)
-  pub operand_not_declared : reading (0x20 ∷ 0x31 ∷ 0 ∷ 0 ∷ 0 ∷ 1 ∷ []) ≡ Err (Operand (Undeclared 1))
-  pub only_the_end : reading (0x7f ∷ []) ≡ Err (Incomplete 0)
+  pub the_benchmark : reading bytes_c17 ≡ Ok c17
+  pub b_without_its_end : RefusedBy cut_b (Ended 15) 2 15
+  pub operand_not_declared : RefusedBy (0x20 ∷ 0x31 ∷ 0 ∷ 0 ∷ 0 ∷ 1 ∷ []) (Operand (Undeclared 1)) 5 1
+  pub only_the_end : RefusedBy (0x7f ∷ []) (Incomplete 0) 7 0
   pub a_wire : reading (0x20 ∷ 0x40 ∷ 0 ∷ 0 ∷ 0x7f ∷ []) ≡ Ok smallest
-  pub an_output_again : reading (0x20 ∷ 0x40 ∷ 0 ∷ 0 ∷ 0x40 ∷ 0 ∷ 0 ∷ 0x7f ∷ []) ≡ Err (NamedTwice 4)
+  pub an_output_again : RefusedBy (0x20 ∷ 0x40 ∷ 0 ∷ 0 ∷ 0x40 ∷ 0 ∷ 0 ∷ 0x7f ∷ []) (NamedTwice 4) 6 4
   pub thirty_two_inputs : reading (replicate 32 0x20 ++ (0x40 ∷ 0 ∷ 0 ∷ 0x7f ∷ [])) ≡ Ok (netlist_from 32 [] (0 ∷ []))
-  pub a_33rd_input : reading (replicate 33 0x20 ++ (0x40 ∷ 0 ∷ 0 ∷ 0x7f ∷ [])) ≡ Err (Limit 32)
+  pub a_33rd_input : RefusedBy (replicate 33 0x20 ++ (0x40 ∷ 0 ∷ 0 ∷ 0x7f ∷ [])) (Limit 32) 4 32
 
 pub record FaultCounts : Type 0 where
   pub b_has_12 : fault_count card_b ≡ 12
@@ -55,7 +63,7 @@ pub record BranchIsNotNet : Type 0 where
   pub the_net_is_caught : catches card_b net_zero_at_zero (holding 3 1) ≡ true
   pub the_branch_is_not : catches card_b (record { line = Pin 2 0; level = false }) (holding 3 1) ≡ false
 
--- A, fault 7: the setting 000 is thinned to X00; XX0, which freeing each cell alone would give, catches nothing, as X against 1 is no difference
+-- A, fault 7: the setting 000 is thinned to X00; XX0, which freeing each cell alone would give, does not catch it, as X against 1 is no difference
 pub record Thinning : Type 0 where
   pub fault_7 : stuck_of card_a 7 ≡ Some net_three_at_one
   pub from_000 : thinned card_a net_three_at_one (holding 7 0) 3 ≡ holding 6 0

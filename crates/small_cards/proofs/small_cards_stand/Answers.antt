@@ -15,7 +15,7 @@ pub returns : goal.returns
 unfolding read_from formula_of units closure descend settings try_each found catches_fault sheet_view digits sheet_text refusal_text
 returns c = record {
   every_worked_case_holds = record {
-    readings = record { a = refl; b = refl; b_without_its_end = refl; operand_not_declared = refl; only_the_end = refl; a_wire = refl; an_output_again = refl; thirty_two_inputs = refl; a_33rd_input = refl };
+    readings = record { a = refl; b = refl; the_benchmark = refl; b_without_its_end = record { reads = refl; has_the_number = refl; has_the_offset = refl }; operand_not_declared = record { reads = refl; has_the_number = refl; has_the_offset = refl }; only_the_end = record { reads = refl; has_the_number = refl; has_the_offset = refl }; a_wire = refl; an_output_again = record { reads = refl; has_the_number = refl; has_the_offset = refl }; thirty_two_inputs = refl; a_33rd_input = record { reads = refl; has_the_number = refl; has_the_offset = refl } };
     fault_counts = record { b_has_12 = refl; a_has_10 = refl; a_wire_has_2 = refl; c17_has_34 = refl };
     branch_is_not_net = record { fault_0 = refl; fault_8 = refl; the_net_is_caught = refl; the_branch_is_not = refl };
     formulas = record { b_fault_2 = refl; b_fault_2_has_10_variables = refl; b_fault_2_has_22_clauses = refl; b_fault_2_has_72_places = refl; c17_fault_0 = refl; c17_fault_0_has_25_variables = refl; c17_fault_0_has_56_clauses = refl; c17_fault_0_has_187_places = refl };
@@ -31,6 +31,8 @@ returns c = record {
       a_fault_7_budget_1_is_undecided = record { stuck = net_three_at_one; is_the_faults_line = refl; answers = refl; finds = refl; marks = refl };
       a_fault_7_gives_x00_in_2_steps = record { stuck = net_three_at_one; is_the_faults_line = refl; answers = refl; finds = refl; marks = refl };
       a_fault_7_gives_x00_in_2_steps_on_a_sheet = record { stuck = net_three_at_one; is_the_faults_line = refl; answers = refl; finds = refl; marks = refl };
+      backtracking_finds_010000_in_5_steps = record { answers = refl; leaves_the_reading = refl };
+      counting_finds_it_in_17 = record { answers = refl; leaves_the_reading = refl };
     };
     jobs = record {
       merging_1x_with_10_gives_10 = (_, (_, (_, refl, (refl, refl)), (refl, refl)), (refl, refl));
@@ -39,6 +41,6 @@ returns c = record {
       care_3_with_one_input_is_refused = λ v value. refl;
       which_is_16 = refl;
     };
-    sheets = record { what_the_job_of_b_holds = refl; the_sheet_of_b = refl; the_line_of_a_bad_card = refl; all_faults_of_c17_are_detected = refl; the_sheet_of_c17_has_11_vectors = refl };
+    sheets = record { what_the_job_of_b_holds = refl; the_sheet_of_b = refl; the_sheet_of_c17 = refl; the_line_of_a_bad_card = refl; all_faults_of_c17_are_detected = refl; the_sheet_of_c17_has_11_vectors = refl };
   };
 }
