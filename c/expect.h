@@ -10,6 +10,8 @@
  * care, value     bit j of care is 1 where input j is fixed, bit j of value is its level there, and 0 elsewhere
  * out, room       where one character '0', '1' or 'X' is written for each output, from output 0
  *
+ * bytes and out must not overlap, and neither may be null, also where its length is 0.
+ *
  * Answers the number of outputs, 1 to 32; the bytes of out behind them stay as they were.
  * Any other answer is a refusal, 100 plus its number, and leaves out as it was. Tested in this order:
  *   101 .. 108   the bytes are no card: 100 plus the number of the first broken rule

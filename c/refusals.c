@@ -1,9 +1,20 @@
 /* Tries the tester's call: on good cards it prints the answer and what then stands in the buffer; then a table of every refusal,
-   each caused by bytes or numbers of its own, with whether the whole buffer is as it was. */
+   each caused by bytes, numbers or want of memory of its own, with whether the whole buffer is as it was. */
 #include "expect.h"
 
 #include <stdio.h>
+#include <stdlib.h>
 #include <string.h>
+
+/* The linker puts this in the place of malloc (--wrap=malloc), so that the call can be made while there is no memory. */
+static int no_memory;
+void *__real_malloc(size_t size);
+void *__wrap_malloc(size_t size);
+
+void *__wrap_malloc(size_t size)
+{
+    return no_memory ? NULL : __real_malloc(size);
+}
 
 static const uint8_t card_b[] = {0x20, 0x20, 0x31, 0x00, 0x00, 0x00, 0x01, 0x32, 0x00, 0x00, 0x00, 0x02, 0x40, 0x00, 0x03, 0x7f};
 static const uint8_t card_a[] = {0x20, 0x20, 0x20, 0x31, 0x00, 0x00, 0x00, 0x01, 0x32, 0x00, 0x03, 0x00, 0x02, 0x40, 0x00, 0x04, 0x7f};
@@ -110,6 +121,11 @@ int main(void)
     refuse("25 no room", wire, sizeof wire, 0, 0, 0);
     refuse("a bad card is told first", BYTES(0x7f), 4, 8, 0);
     refuse("a bad vector before want of room", two_outputs, sizeof two_outputs, 2, 0, 0);
+    no_memory = 1;
+    refuse("0 no memory to hold B", card_b, sizeof card_b, 1, 1, 32);
+    refuse("no memory before a bad vector", card_b, sizeof card_b, 4, 8, 0);
+    refuse("a bad card needs no memory", BYTES(0x20, 0x31, 0x00, 0x00, 0x00, 0x01), 1, 1, 32);
+    no_memory = 0;
 
     printf("\nrefused with:");
     for (size_t answer = 0; answer < sizeof refused_with; answer++)

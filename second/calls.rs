@@ -10,8 +10,10 @@ use std::io::{self, Write};
 pub enum Size {
     Small,
     Middle,
-    Wide, // all nets that a card may have, but few inputs
-    Full,
+    Wide,   // all nets that a card may have, but few inputs
+    Full,   // 32 inputs, 224 gates; a sheet of it can take many minutes
+    Spare,  // the same, but the gates read the first few inputs alone
+    Ladder, // the same, but made so that every search is short
 }
 
 impl Size {
@@ -21,7 +23,9 @@ impl Size {
             "middle" => Size::Middle,
             "wide" => Size::Wide,
             "full" => Size::Full,
-            _ => panic!("a size is small, middle, wide or full"),
+            "spare" => Size::Spare,
+            "ladder" => Size::Ladder,
+            _ => panic!("a size is small, middle, wide, full, spare or ladder"),
         }
     }
 }
@@ -38,7 +42,7 @@ fn extent(size: Size, random: &mut Random) -> (usize, usize, usize) {
             let inputs = 4 + random.below(5);
             (inputs, 256 - inputs, 1 + random.below(32))
         }
-        Size::Full => (32, 224, 1 + random.below(32)),
+        _ => (32, 224, 1 + random.below(32)),
     }
 }
 
@@ -68,7 +72,68 @@ fn read(nets: usize, near: usize, unread: &[usize], random: &mut Random) -> usiz
     }
 }
 
+// A wide card whose gates keep their inputs, put among the first of 32. The other inputs change no output, and a search
+// need not decide them to know that.
+fn spare_card(random: &mut Random) -> Netlist {
+    let mut card = sized_card(Size::Wide, random);
+    let (own, inputs) = (card.inputs, 32);
+    let moved = |net: usize| if net < own { net } else { net + inputs - own };
+    card.gates.truncate(256 - inputs);
+    for gate in &mut card.gates {
+        gate.reads = gate.reads.iter().map(|&net| moved(net)).collect();
+    }
+    card.outputs = card.outputs.iter().map(|&net| moved(net)).filter(|net| (inputs..256).contains(net)).collect();
+    if card.outputs.is_empty() {
+        card.outputs.push(255);
+    }
+    card.inputs = inputs;
+    card
+}
+
+// A few gates of any kind over the last inputs, and above them a ladder that takes the other inputs downwards, one a rung.
+// One of the two bits of a rung's input settles all gates of the rung, so a search that has decided the first inputs
+// already knows what the outputs show, and turns at once where nothing differs there.
+fn ladder_card(random: &mut Random) -> Netlist {
+    let (inputs, count) = (32, 224);
+    let first = 24 + random.below(5);
+    let mut card = Netlist { inputs, gates: vec![], outputs: vec![] };
+    for net in inputs..inputs + 8 + random.below(17) {
+        let function = random.below(10) as u8;
+        let choose = |random: &mut Random| {
+            let at = first + random.below(net - first);
+            if random.one_in(3) { at } else { net - 1 - random.below(8.min(net - first)) }
+        };
+        let reads = (0..operands_of(0x30 + function).unwrap()).map(|_| choose(random)).collect();
+        card.gates.push(Gate { function, reads });
+    }
+    let mut rung: Vec<usize> = (inputs + card.gates.len() - 8..inputs + card.gates.len()).collect();
+    for input in (0..first).rev() {
+        let kinds: [u8; 2] = if random.one_in(2) { [1, 5] } else { [2, 6] };
+        let made = card.gates.len();
+        let width = (count - made) / (input + 1);
+        for i in 0..width {
+            let below = if random.one_in(4) { rung[random.below(rung.len())] } else { rung[i % rung.len()] };
+            let reads = if random.one_in(2) { vec![input, below] } else { vec![below, input] };
+            card.gates.push(Gate { function: kinds[random.below(2)], reads });
+        }
+        rung = (inputs + made..inputs + made + width).collect();
+    }
+    let most = 1 + random.below(rung.len());
+    for _ in 0..2 * most {
+        let net = rung[random.below(rung.len())];
+        if card.outputs.len() < most && !card.outputs.contains(&net) {
+            card.outputs.push(net);
+        }
+    }
+    card
+}
+
 pub fn sized_card(size: Size, random: &mut Random) -> Netlist {
+    match size {
+        Size::Spare => return spare_card(random),
+        Size::Ladder => return ladder_card(random),
+        _ => {}
+    }
     let (inputs, count, most) = extent(size, random);
     let style = STYLES[random.below(4)];
     let near = 4 + random.below(60);

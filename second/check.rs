@@ -177,6 +177,16 @@ fn verdicts(random: &mut Random) {
     }
 }
 
+// The large cards whose sheets are to take seconds: good cards of full size, with outputs that gates make.
+fn full_sizes(random: &mut Random) {
+    for size in [Size::Spare, Size::Ladder].repeat(20) {
+        let netlist = sized_card(size, random);
+        let read_back = read(&crate::card::write(&netlist)).expect("a large card");
+        assert_eq!((read_back.inputs, read_back.gates.len()), (32, 224), "a large card");
+        assert!(read_back.outputs.iter().all(|&net| net >= 32), "an output that is an input");
+    }
+}
+
 // Trying every setting must notice each of these wrong sheets and answers on card B.
 fn wrongs() {
     let tried = Tried::new(&card(B)).unwrap();
@@ -240,4 +250,5 @@ pub fn check() {
     quick_as_plain(&mut random);
     catch_as_plain(&mut random);
     verdicts(&mut random);
+    full_sizes(&mut random);
 }

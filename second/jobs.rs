@@ -77,7 +77,7 @@ pub fn run(words: &[&str], out: &mut impl Write) -> io::Result<bool> {
         ["tried-shift", card, calls, answers] => tried_shift(card, calls, answers, out)?,
         ["check"] => {
             crate::check::check();
-            writeln!(out, "second program: worked cases, plain and fast ways, verdicts: as they should be")?
+            writeln!(out, "second program: worked cases, plain and fast ways, verdicts, large cards: as they should be")?
         }
         _ => return Ok(false),
     }
