@@ -1,5 +1,5 @@
 -- What is pending, step by step: at the start of a search, after a decision, while one literal is followed up, and at the end.
-use Rattle.std.proofs.Common.{◌≡◌, ℕ, zero, suc, ◌+◌, ◌-◌, ◌*◌, ◌<◌, ◌≤◌, Bool, true, false, cond, not, ◌⊎◌, List, [], ◌∷◌, ◌++◌, length, get_or, take, drop, ℤ, pos, Some, None, Ok, Err, Option, sym, refl, ap, ◌∙◌, subst, ap₂, inl, inr, true≢false, le_of_suc-le-suc, not-suc-le-zero, arith, length-append, length-drop, length-set, get_or-set_same}
+use Rattle.std.proofs.Common.{◌≡◌, ◌≢◌, ℕ, zero, suc, ◌+◌, ◌-◌, ◌*◌, ◌<◌, ◌≤◌, Bool, true, false, cond, not, ◌⊎◌, List, [], ◌∷◌, ◌++◌, length, get_or, take, drop, ℤ, pos, Some, None, Ok, Err, Option, sym, refl, ap, ◌∙◌, subst, ap₂, inl, inr, true≢false, le_of_suc-le-suc, not-suc-le-zero, arith, length-append, length-drop, length-set, get_or-set_same}
 use mathlib.Core.Bool.{false≢true}
 use native.Mathlib.Decide.{dec_lt, ℕ_discrete}
 use lib.Seq.{drop-append-le}
@@ -17,7 +17,7 @@ use Rattle.propagation.specs.Scanning.{foremost, clauses_from}
 use Rattle.propagation.specs.Occurrences.{key, against, last_before, start_of, nowhere, Listed}
 use Rattle.propagation.specs.declared.occurrence.Occurrence.{Occurrence}
 use Rattle.propagation.specs.Trails.{Grown}
-use Rattle.propagation.specs.Following.{AtRest, Met, Inside, Pending, Pressed, rests, breaks, forces}
+use Rattle.propagation.specs.Following.{AtRest, Met, Inside, Pending, Pressed, rests, breaks, forces, PassedOver}
 use Rattle.propagation.proofs.Visits.{Looked, Left, Visiting}
 use Rattle.propagation.proofs.Weighed.{rest_made}
 use Rattle.propagation.proofs.Trailing.{grown_more, grown_longer}
@@ -282,18 +282,25 @@ module _ (row : List ℤ) (ends lasts : List ℕ) (places : List Occurrence) (ls
         let e : below - 1 ≡ p = omega (arith, eb) in
         (omega (arith, s.0, eb), ap (λ n. key (get_or row n (pos 0))) (sym e) ∙ s.1)
 
+    -- what is left at another place lies before this one
+    passed : (wide : k < length lasts) (c : ℕ) → c < length (clauses_from row 0 ends) → (l : Left (clauses_from row 0 ends) ends c k below) → start_of ends c + l.at ≢ p → Left (clauses_from row 0 ends) ends c k (get_or places p nowhere).before
+    passed wide c g l e =
+        let j = ls.linked p here.0 (omega (arith, here.1, wide)) in
+        let o = last_over row (key (get_or row p (pos 0))) p (start_of ends c + l.at) (omega (arith, e, l.under, eb)) (ap key (place_literal row ends ls.ended c l.at g l.inside) ∙ l.same ∙ sym here.1) in
+        record { at = l.at; inside = l.inside; same = l.same; under = omega (arith, j, o) }
+
+    -- a place of a clause names it
+    spans : (c : ℕ) → c < length (clauses_from row 0 ends) → (l : Left (clauses_from row 0 ends) ends c k below) → start_of ends c + l.at ≡ p → ((get_or places p nowhere).from ≡ start_of ends c) × ((get_or places p nowhere).to ≡ get_or ends c 0)
+    spans c g l e =
+        let q = place_inside row ends ls.ended c l.at g l.inside in
+        ls.spanned c p (omega (arith, clauses_length row 0 ends, g)) (omega (arith, e)) (omega (arith, e, q.0))
+
     -- the place is visited: what is left lies before it, or is its own clause
     shrunk : (wide : k < length lasts) (c : ℕ) → c < length (clauses_from row 0 ends) → Left (clauses_from row 0 ends) ends c k below → (get_or (clauses_from row 0 ends) c [] ≡ take ((get_or places p nowhere).to - (get_or places p nowhere).from) (drop (get_or places p nowhere).from row)) ⊎ Left (clauses_from row 0 ends) ends c k (get_or places p nowhere).before
     shrunk wide c g l = go (ℕ_discrete (start_of ends c + l.at) p) where
       go : Dec (start_of ends c + l.at ≡ p) → (get_or (clauses_from row 0 ends) c [] ≡ take ((get_or places p nowhere).to - (get_or places p nowhere).from) (drop (get_or places p nowhere).from row)) ⊎ Left (clauses_from row 0 ends) ends c k (get_or places p nowhere).before
-      go (yes e) =
-          let q = place_inside row ends ls.ended c l.at g l.inside in
-          let s = ls.spanned c p (omega (arith, clauses_length row 0 ends, g)) (omega (arith, e)) (omega (arith, e, q.0)) in
-          inl (clause_at row ends ls.ended c g ∙ sym (rw (s.0, s.1)))
-      go (no e) =
-          let j = ls.linked p here.0 (omega (arith, here.1, wide)) in
-          let o = last_over row (key (get_or row p (pos 0))) p (start_of ends c + l.at) (omega (arith, e, l.under, eb)) (ap key (place_literal row ends ls.ended c l.at g l.inside) ∙ l.same ∙ sym here.1) in
-          inr (record { at = l.at; inside = l.inside; same = l.same; under = omega (arith, j, o) })
+      go (yes e) = let s = spans c g l e in inl (clause_at row ends ls.ended c g ∙ sym (rw (s.0, s.1)))
+      go (no e) = inr (passed wide c g l e)
 
     stood : (wide : k < length lasts) → 0 < (get_or places p nowhere).before → ((get_or places p nowhere).before ≤ length row) × (key (get_or row ((get_or places p nowhere).before - 1) (pos 0)) ≡ k)
     stood wide g =
@@ -314,6 +321,30 @@ module _ (row : List ℤ) (ends lasts : List ℕ) (places : List Occurrence) (ls
     visit_before wide =
         let j = ls.linked p here.0 (omega (arith, here.1, wide)) in
         omega (arith, j, last_le row (key (get_or row p (pos 0))) p)
+
+    -- where the literal stands before it in the same clause, the place is passed over: the clause is left there
+    pub visit_past : (wide : k < length lasts) → (get_or places p nowhere).from < (get_or places p nowhere).before → Visiting (clauses_from row 0 ends) row ends k (get_or places p nowhere).before v front
+    visit_past wide h = record { inside = w.inside; fails = w.fails; stands = stood wide; met = λ c g. outer c g (w.met c g) } where
+      moved : (c : ℕ) → c < length (clauses_from row 0 ends) → (l : Left (clauses_from row 0 ends) ends c k below) → start_of ends c + l.at ≡ p → Left (clauses_from row 0 ends) ends c k (get_or places p nowhere).before
+      moved c g l e =
+          let s = spans c g l e in
+          let n : start_of ends c + ((get_or places p nowhere).before - 1 - start_of ends c) ≡ (get_or places p nowhere).before - 1 = omega (arith, s.0, h) in
+          let i : (get_or places p nowhere).before - 1 - start_of ends c < length (get_or (clauses_from row 0 ends) c []) = omega (arith, l.inside, e, visit_before wide, s.0, h) in
+          record {
+            at = (get_or places p nowhere).before - 1 - start_of ends c;
+            inside = i;
+            same = ap key (sym (place_literal row ends ls.ended c _ g i) ∙ ap (λ m. get_or row m (pos 0)) n) ∙ (stood wide (omega (arith, h))).1;
+            under = omega (arith, n, h);
+          }
+
+      inner : (c : ℕ) → c < length (clauses_from row 0 ends) → (l : Left (clauses_from row 0 ends) ends c k below) → Dec (start_of ends c + l.at ≡ p) → Left (clauses_from row 0 ends) ends c k (get_or places p nowhere).before
+      inner c g l (yes e) = moved c g l e
+      inner c g l (no e) = passed wide c g l e
+
+      outer : (c : ℕ) → c < length (clauses_from row 0 ends) → AtRest v (get_or (clauses_from row 0 ends) c []) ⊎ (Met (get_or (clauses_from row 0 ends) c []) front ⊎ Left (clauses_from row 0 ends) ends c k below) → AtRest v (get_or (clauses_from row 0 ends) c []) ⊎ (Met (get_or (clauses_from row 0 ends) c []) front ⊎ Left (clauses_from row 0 ends) ends c k (get_or places p nowhere).before)
+      outer c g (inl s) = inl s
+      outer c g (inr (inl m)) = inr (inl m)
+      outer c g (inr (inr l)) = inr (inr (inner c g l (ℕ_discrete (start_of ends c + l.at) p)))
 
     pub visit_rest : (wide : k < length lasts) → AtRest v (take ((get_or places p nowhere).to - (get_or places p nowhere).from) (drop (get_or places p nowhere).from row)) → Visiting (clauses_from row 0 ends) row ends k (get_or places p nowhere).before v front
     visit_rest wide r = record { inside = w.inside; fails = w.fails; stands = stood wide; met = λ c g. outer c g (w.met c g) } where
@@ -358,16 +389,17 @@ module _ (row : List ℤ) (ends lasts : List ℕ) (places : List Occurrence) (ls
   -- one clause looked at, with what it did to the setting and the trail
   module _ (k below p f : ℕ) (a v w : Setting) (s t u : List ℤ) (r : Bool) (eb : below ≡ p + 1) (wide : k < length lasts)
       (vis : Visiting (clauses_from row 0 ends) row ends k below v (drop (f + 1) t)) (reach : Reaches (clauses_from row 0 ends) a v) (grown : Grown a v s t) (inside : f < length s)
-      (pr : Pressed (take ((get_or places p nowhere).to - (get_or places p nowhere).from) (drop (get_or places p nowhere).from row)) v t r w u) where
+      (pr : Pressed (take ((get_or places p nowhere).to - (get_or places p nowhere).from) (drop (get_or places p nowhere).from row)) v t r w u ⊎ PassedOver (get_or places p nowhere) v t r w u) where
     stands_here : (c : ℕ) × (c < length (clauses_from row 0 ends)) × (get_or (clauses_from row 0 ends) c [] ≡ take ((get_or places p nowhere).to - (get_or places p nowhere).from) (drop (get_or places p nowhere).from row)) × ((get_or places p nowhere).to ≤ length row)
     stands_here = visited p (here k below p v (drop (f + 1) t) eb vis).0
 
     pub visit_broken : r ≡ false → Reaches (clauses_from row 0 ends) a w × (violated w (clauses_from row 0 ends) ≡ true) × Grown a w s u
     visit_broken e = go pr where
-      go : Pressed (take ((get_or places p nowhere).to - (get_or places p nowhere).from) (drop (get_or places p nowhere).from row)) v t r w u → Reaches (clauses_from row 0 ends) a w × (violated w (clauses_from row 0 ends) ≡ true) × Grown a w s u
-      go (rests x y z q) = absurd (true≢false (sym x ∙ e))
-      go (forces l x y z q) = absurd (true≢false (sym x ∙ e))
-      go (breaks x y z q) =
+      go : Pressed (take ((get_or places p nowhere).to - (get_or places p nowhere).from) (drop (get_or places p nowhere).from row)) v t r w u ⊎ PassedOver (get_or places p nowhere) v t r w u → Reaches (clauses_from row 0 ends) a w × (violated w (clauses_from row 0 ends) ≡ true) × Grown a w s u
+      go (inr o) = absurd (true≢false (sym o.whole ∙ e))
+      go (inl (rests x y z q)) = absurd (true≢false (sym x ∙ e))
+      go (inl (forces l x y z q)) = absurd (true≢false (sym x ∙ e))
+      go (inl (breaks x y z q)) =
           let b = broken_violates v (clauses_from row 0 ends) stands_here.0 stands_here.1 (ap (state_of v) stands_here.2 ∙ y) in (
             subst (λ (m : Setting). Reaches (clauses_from row 0 ends) a m) (sym z) reach,
             ap (λ (m : Setting). violated m (clauses_from row 0 ends)) z ∙ b,
@@ -376,10 +408,11 @@ module _ (row : List ℤ) (ends lasts : List ℕ) (places : List Occurrence) (ls
 
     pub visit_goes : r ≡ true → Visiting (clauses_from row 0 ends) row ends k (get_or places p nowhere).before w (drop (f + 1) u) × Reaches (clauses_from row 0 ends) a w × Grown a w s u
     visit_goes e = go pr where
-      go : Pressed (take ((get_or places p nowhere).to - (get_or places p nowhere).from) (drop (get_or places p nowhere).from row)) v t r w u → Visiting (clauses_from row 0 ends) row ends k (get_or places p nowhere).before w (drop (f + 1) u) × Reaches (clauses_from row 0 ends) a w × Grown a w s u
-      go (breaks x y z q) = absurd (false≢true (sym x ∙ e))
-      go (rests x y z q) = rw (z, q) (visit_rest k below p v (drop (f + 1) t) eb vis wide y, reach, grown)
-      go (forces l x y z q) =
+      go : Pressed (take ((get_or places p nowhere).to - (get_or places p nowhere).from) (drop (get_or places p nowhere).from row)) v t r w u ⊎ PassedOver (get_or places p nowhere) v t r w u → Visiting (clauses_from row 0 ends) row ends k (get_or places p nowhere).before w (drop (f + 1) u) × Reaches (clauses_from row 0 ends) a w × Grown a w s u
+      go (inr o) = rw (o.setting, o.trail) (visit_past k below p v (drop (f + 1) t) eb vis wide o.again, reach, grown)
+      go (inl (breaks x y z q)) = absurd (false≢true (sym x ∙ e))
+      go (inl (rests x y z q)) = rw (z, q) (visit_rest k below p v (drop (f + 1) t) eb vis wide y, reach, grown)
+      go (inl (forces l x y z q)) =
           let o = unit_place v l _ y in
           let d : drop (f + 1) (t ++ (l ∷ [])) ≡ drop (f + 1) t ++ (l ∷ []) = drop-append-le (f + 1) t (l ∷ []) (omega (arith, inside, grown_longer a v s t grown)) in
           let h = visit_unit k below p v (drop (f + 1) t) eb vis wide l y in

@@ -6,6 +6,7 @@ use Rattle.solving.specs.declared.state.State.TheVariants.{Broken as broken, Lon
 use Rattle.solving.specs.States.{state_of}
 use Rattle.solving.specs.Closing.{violated, closure}
 use Rattle.propagation.specs.Occurrences.{key, against}
+use Rattle.propagation.specs.declared.occurrence.Occurrence.{Occurrence}
 
 -- neither false throughout nor unit
 abbrev pub AtRest : Setting → List ℤ → Type 0
@@ -38,3 +39,10 @@ pub data Pressed (c : List ℤ) (v : Setting) (t : List ℤ) (r : Bool) (w : Set
   rests : r ≡ true → state_of v c ≡ other → w ≡ v → u ≡ t → Pressed c v t r w u
   breaks : r ≡ false → state_of v c ≡ broken → w ≡ v → u ≡ t → Pressed c v t r w u
   forces : (l : ℤ) → r ≡ true → state_of v c ≡ unit l → w ≡ made v l → u ≡ t ++ (l ∷ []) → Pressed c v t r w u
+
+-- the clause of a place is left to an earlier place in it of the same literal, and nothing is done
+pub record PassedOver (place : Occurrence) (v : Setting) (t : List ℤ) (r : Bool) (w : Setting) (u : List ℤ) : Type 0 where
+  pub again : place.from < place.before
+  pub whole : r ≡ true
+  pub setting : w ≡ v
+  pub trail : u ≡ t

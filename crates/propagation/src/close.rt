@@ -5,27 +5,30 @@ ghost use Rattle.solving.specs.Closing.{violated};
 ghost use Rattle.solving.specs.Orders.{Reaches};
 ghost use Rattle.propagation.specs.Stacks.{held, room};
 ghost use Rattle.propagation.specs.Trails.{Grown};
-ghost use Rattle.propagation.specs.Clauses.{clauses_of};
+ghost use Rattle.propagation.specs.Scanning.{Ends};
+ghost use Rattle.propagation.specs.Clauses.{clauses_of, clauses_listed, listed};
 ghost use Rattle.propagation.specs.Following.{Pending, Closes};
 
 use crate::assignment::Assignment;
 use crate::clauses::Clauses;
 use crate::conflict::Conflict;
 use crate::follow::follow;
+use crate::lists::Lists;
 use crate::scan::scan;
 use crate::stack::Stack;
 use crate::trail::make;
 
 // Looks at every clause once, and makes the literal of each unit clause true.
 pub fn begin(
-    clauses: Clauses,
+    clauses: Lists,
     values: &mut [Option<bool>],
     trail: &mut Stack<i16>,
 ) -> Result<(), Conflict>
+    requires ended { Ends clauses.literals.now 0 clauses.ends.now }
     requires space { trail.old.len + open_in (length values.old) values.old ≤ room trail.old }
-    ensures reached { Reaches (clauses_of clauses.entry) values.old values.new }
-    ensures broken { OnErr result (violated values.new (clauses_of clauses.entry) ≡ true) }
-    ensures pending { OnOk result (Pending (clauses_of clauses.entry) values.new (drop trail.old.len (held trail.new))) }
+    ensures reached { Reaches (clauses_listed clauses.entry) values.old values.new }
+    ensures broken { OnErr result (violated values.new (clauses_listed clauses.entry) ≡ true) }
+    ensures pending { OnOk result (Pending (clauses_listed clauses.entry) values.new (drop trail.old.len (held trail.new))) }
     ensures grown { Grown values.old values.new (held trail.old) (held trail.new) }
     ensures space { room trail.new ≡ room trail.old }
 {
@@ -40,13 +43,15 @@ pub fn begin(
 
 // Closure; a conflict where it ends violated.
 pub fn close(
-    clauses: Clauses,
+    clauses: Lists,
     values: &mut [Option<bool>],
     trail: &mut Stack<i16>,
 ) -> Result<(), Conflict>
+    requires listed { listed clauses }
     requires few { length values.old ≤ 560 }
+    requires wide { length values.old + length values.old ≤ length clauses.lasts.now }
     requires space { trail.old.len + open_in (length values.old) values.old ≤ room trail.old }
-    ensures closes { Closes (clauses_of clauses.entry) values.old values.new (is_ok result) }
+    ensures closes { Closes (clauses_listed clauses.entry) values.old values.new (is_ok result) }
     ensures grown { Grown values.old values.new (held trail.old) (held trail.new) }
     ensures space { room trail.new ≡ room trail.old }
 {
@@ -65,7 +70,7 @@ impl Assignment<'_> {
         ensures grown { Grown self.old.values.now self.new.values.now (held self.old.trail) (held self.new.trail) }
         ensures keeps_its_room { room self.new.trail ≡ room self.old.trail }
     {
-        begin(clauses, self.values, &mut self.trail)
+        begin(clauses.lists(), self.values, &mut self.trail)
     }
 
     // And closure.
@@ -74,6 +79,6 @@ impl Assignment<'_> {
         ensures grown { Grown self.old.values.now self.new.values.now (held self.old.trail) (held self.new.trail) }
         ensures keeps_its_room { room self.new.trail ≡ room self.old.trail }
     {
-        close(clauses, self.values, &mut self.trail)
+        close(clauses.lists(), self.values, &mut self.trail)
     }
 }

@@ -6,12 +6,13 @@ ghost use Rattle.solving.specs.Closing.{violated};
 ghost use Rattle.solving.specs.Orders.{Reaches};
 ghost use Rattle.propagation.specs.Stacks.{held, room};
 ghost use Rattle.propagation.specs.Trails.{Grown};
-ghost use Rattle.propagation.specs.Clauses.{clauses_of};
+ghost use Rattle.propagation.specs.Clauses.{clauses_of, clauses_listed, listed};
 ghost use Rattle.propagation.specs.Following.{Pending, Closes};
 
 use crate::assignment::Assignment;
 use crate::clauses::Clauses;
 use crate::conflict::Conflict;
+use crate::lists::Lists;
 use crate::literal::negated_key_of;
 use crate::press::press;
 use crate::stack::Stack;
@@ -19,18 +20,20 @@ use crate::stack::Stack;
 // Follows up the literal at one place of the trail. What is reached, broken and grown is said of every call on the way: it relates
 // the setting before that call to the one after it.
 fn visit(
-    clauses: Clauses,
+    clauses: Lists,
     values: &mut [Option<bool>],
     trail: &mut Stack<i16>,
     front: usize,
 ) -> Result<(), Conflict>
+    requires listed { listed clauses }
     requires few { length values.old ≤ 560 }
+    requires wide { length values.old + length values.old ≤ length clauses.lasts.now }
     requires inside { front < trail.old.len }
-    requires pending { Pending (clauses_of clauses) values.old (drop front (held trail.old)) }
+    requires pending { Pending (clauses_listed clauses) values.old (drop front (held trail.old)) }
     requires space { trail.old.len + open_in (length values.old) values.old ≤ room trail.old }
-    ensures reached { Reaches (clauses_of clauses.entry) values.old values.new }
-    ensures broken { OnErr result (violated values.new (clauses_of clauses.entry) ≡ true) }
-    ensures pending { OnOk result (Pending (clauses_of clauses.entry) values.new (drop (front + 1) (held trail.new))) }
+    ensures reached { Reaches (clauses_listed clauses.entry) values.old values.new }
+    ensures broken { OnErr result (violated values.new (clauses_listed clauses.entry) ≡ true) }
+    ensures pending { OnOk result (Pending (clauses_listed clauses.entry) values.new (drop (front + 1) (held trail.new))) }
     ensures grown { Grown values.old values.new (held trail.old) (held trail.new) }
     ensures space { room trail.new ≡ room trail.old }
 {
@@ -38,7 +41,7 @@ fn visit(
     let mut below = clauses.lasts[negated_key_of(trail.get(front))] as usize;
     while below > 0 {
         let place = clauses.places[below - 1];
-        press(clauses.row.literals, values, trail, place)?;
+        press(clauses.literals, values, trail, place)?;
         below = place.before as usize;
     }
     Ok(())
@@ -47,18 +50,20 @@ fn visit(
 // Closure of a setting in which only the literals from one place of the trail on have yet to be followed up.
 // A conflict where it ends violated.
 pub fn follow(
-    clauses: Clauses,
+    clauses: Lists,
     values: &mut [Option<bool>],
     trail: &mut Stack<i16>,
     from: usize,
 ) -> Result<(), Conflict>
+    requires listed { listed clauses }
     requires few { length values.old ≤ 560 }
+    requires wide { length values.old + length values.old ≤ length clauses.lasts.now }
     requires inside { from ≤ trail.old.len }
-    requires pending { Pending (clauses_of clauses) values.old (drop from (held trail.old)) }
+    requires pending { Pending (clauses_listed clauses) values.old (drop from (held trail.old)) }
     requires space { trail.old.len + open_in (length values.old) values.old ≤ room trail.old }
-    ensures closes { Closes (clauses_of clauses.entry) values.old values.new (is_ok result) }
-    ensures reached { Reaches (clauses_of clauses.entry) values.old values.new }
-    ensures broken { OnErr result (violated values.new (clauses_of clauses.entry) ≡ true) }
+    ensures closes { Closes (clauses_listed clauses.entry) values.old values.new (is_ok result) }
+    ensures reached { Reaches (clauses_listed clauses.entry) values.old values.new }
+    ensures broken { OnErr result (violated values.new (clauses_listed clauses.entry) ≡ true) }
     ensures grown { Grown values.old values.new (held trail.old) (held trail.new) }
     ensures space { room trail.new ≡ room trail.old }
 {
@@ -82,6 +87,6 @@ impl Assignment<'_> {
         ensures grown { Grown self.old.values.now self.new.values.now (held self.old.trail) (held self.new.trail) }
         ensures keeps_its_room { room self.new.trail ≡ room self.old.trail }
     {
-        follow(clauses, self.values, &mut self.trail, from)
+        follow(clauses.lists(), self.values, &mut self.trail, from)
     }
 }

@@ -5,8 +5,8 @@ use crate::occurrence::Occurrence;
 
 #[derive(Drop)]
 pub struct Index {
-    pub(crate) lasts: Vec<u16>,
-    pub(crate) places: Vec<Occurrence>,
+    pub lasts: Vec<u16>,
+    pub places: Vec<Occurrence>,
     ghost wide: { 1120 ≤ vec_len lasts },
     ghost roomy: { 9216 ≤ vec_len places },
 }

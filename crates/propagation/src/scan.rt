@@ -1,11 +1,11 @@
 // The scan with which a closure begins: from some clause on, literal by literal, to the first clause that is false throughout or unit.
 ghost use Rattle.std.specs.Prelude.{◌≡◌, ◌≤◌, length, drop};
-ghost use Rattle.propagation.specs.Scanning.{foremost};
+ghost use Rattle.propagation.specs.Scanning.{foremost, Ends};
 ghost use Rattle.propagation.specs.Occurrences.{start_of};
-ghost use Rattle.propagation.specs.Clauses.{clauses_of};
+ghost use Rattle.propagation.specs.Clauses.{clauses_listed};
 
-use crate::clauses::Clauses;
 use crate::conflict::Violated;
+use crate::lists::Lists;
 use crate::literal::{join, value_of};
 use solving::State;
 
@@ -20,15 +20,16 @@ pub fn start_of(ends: &[usize], c: usize) -> usize
 // The first clause from one on that is false throughout or unit: a violated one, or by its number a unit one and its open literal;
 // none where every clause from there on is at rest.
 pub(crate) fn scan(
-    clauses: Clauses,
+    clauses: Lists,
     values: &[Option<bool>],
     first: usize,
 ) -> Result<Option<(usize, i16)>, Violated>
-    requires inside { first ≤ length clauses.row.ends.now }
-    ensures is_the_first_such_clause { result ≡ foremost values.now first (drop first (clauses_of clauses.entry)) }
+    requires ended { Ends clauses.literals.now 0 clauses.ends.now }
+    requires inside { first ≤ length clauses.ends.now }
+    ensures is_the_first_such_clause { result ≡ foremost values.now first (drop first (clauses_listed clauses.entry)) }
 {
-    let literals = clauses.row.literals;
-    let ends = clauses.row.ends;
+    let literals = clauses.literals;
+    let ends = clauses.ends;
     let mut from = start_of(ends, first);
     'scan: {
         // Nested, and left by a label: a rule of the project. By number: the answer names a clause by it.

@@ -6,7 +6,7 @@ use Rattle.solving.specs.Literals.{place}
 use Rattle.solving.specs.Settings.{open_in}
 use Rattle.solving.specs.Orders.{stop}
 use Rattle.solving.proofs.Places.{open_inside, open_some}
-use Rattle.propagation.specs.Clauses.{clauses_of}
+use Rattle.propagation.specs.Clauses.{clauses_listed}
 use Rattle.propagation.proofs.Rows.{clauses_length, stands_at}
 use Rattle.propagation.proofs.Scanned.{scan_open, scan_falls}
 use Rattle.propagation.proofs.Trailing.{grown_none, grown_more, grown_longer}
@@ -18,11 +18,11 @@ pub loop-c-init : goal.loop-c-init
 loop-c-init c =
     let t = take c.args.trail.now.len c.args.trail.now.entries.now in
     let l : length (drop c.args.trail.now.len t) ≡ 0 = simp (length-drop, length-take) (omega arith) in
-    (look_none (clauses_of c.args.clauses) c.args.values.now _ l, stop, grown_none c.args.values.now t, refl, c.requires.space, omega arith)
+    (look_none (clauses_listed c.args.clauses) c.args.values.now _ l, stop, grown_none c.args.values.now t, refl, c.requires.space, omega arith)
 
 pub returns-in_err-c : goal.returns-in_err-c
 returns-in_err-c c =
-    let b = look_broken (clauses_of c.args.clauses) c.loop-c.first _ c.loop-c.values (sym c.in_err-c.ensures.is_the_first_such_clause) in
+    let b = look_broken (clauses_listed c.args.clauses) c.loop-c.first _ c.loop-c.values (sym c.in_err-c.ensures.is_the_first_such_clause) in
     let p = err_from_is_err_and c.from_residual.result c.from_residual.ensures.1 in
     rw p.1 (record { reached = c.loop-c.invariant.1; broken = b; pending = tt; grown = c.loop-c.invariant.2; space = c.loop-c.invariant.3 })
 
@@ -39,8 +39,8 @@ make-requires c =
 pub overflow_add-first : goal.overflow_add-first
 overflow_add-first c =
     let cl = c.args.clauses in
-    let m = look_unit (clauses_of cl) c.loop-c.first c.in-Some.c c.loop-c.values _ c.in-Some.literal c.loop-c.invariant.0 (sym c.in_ok-c.ensures.is_the_first_such_clause ∙ ap Ok c.in-Some.is) in
-    let h : c.in-Some.c < length cl.row.ends.now = omega (arith, m.known, clauses_length cl.row.literals.now 0 cl.row.ends.now) in
+    let m = look_unit (clauses_listed cl) c.loop-c.first c.in-Some.c c.loop-c.values _ c.in-Some.literal c.loop-c.invariant.0 (sym c.in_ok-c.ensures.is_the_first_such_clause ∙ ap Ok c.in-Some.is) in
+    let h : c.in-Some.c < length cl.ends.now = omega (arith, m.known, clauses_length cl.literals.now 0 cl.ends.now) in
     search rules
 
 pub loop-c-smaller : goal.loop-c-smaller
@@ -54,7 +54,7 @@ loop-c-smaller c =
 pub loop-c-preserved : goal.loop-c-preserved
 loop-c-preserved c =
     let cl = c.args.clauses in
-    let cs = clauses_of cl in
+    let cs = clauses_listed cl in
     let v = c.loop-c.values in
     let l = c.in-Some.literal in
     let n = c.args.trail.now.len in
@@ -75,10 +75,10 @@ loop-c-preserved c =
       rw (mv, mt) g,
       c.make.ensures.space ∙ c.loop-c.invariant.3,
       omega (arith, w, ap (λ a. open_in (length a) a) mv, c.make.ensures.len, c.make.ensures.space, c.loop-c.invariant.4),
-      omega (arith, q.known, clauses_length cl.row.literals.now 0 cl.row.ends.now),
+      omega (arith, q.known, clauses_length cl.literals.now 0 cl.ends.now),
     )
 
 pub returns : goal.returns
 returns c =
-    let p = look_end (clauses_of c.args.clauses) c.loop-c.first c.loop-c.values _ c.loop-c.invariant.0 (sym c.in_ok-c.ensures.is_the_first_such_clause ∙ ap Ok c.in_default.is) in
+    let p = look_end (clauses_listed c.args.clauses) c.loop-c.first c.loop-c.values _ c.loop-c.invariant.0 (sym c.in_ok-c.ensures.is_the_first_such_clause ∙ ap Ok c.in_default.is) in
     record { reached = c.loop-c.invariant.1; broken = tt; pending = p; grown = c.loop-c.invariant.2; space = c.loop-c.invariant.3 }

@@ -1,7 +1,7 @@
 use Rattle.std.proofs.Common.{◌≡◌, length, take, drop, refl, ◌∙◌, arith, length-drop, length-take}
 use Rattle.std.proofs.lemmas.Result.{err_from_is_err_and}
 use Rattle.solving.specs.Orders.{stop}
-use Rattle.propagation.specs.Clauses.{clauses_of}
+use Rattle.propagation.specs.Clauses.{clauses_listed}
 use Rattle.propagation.proofs.Trailing.{grown_none, grown_on, grown_longer}
 use Rattle.propagation.proofs.Reached.{reach_on, closes_broken, closes_whole}
 use Rattle.propagation.proofs.Followed.{pending_end, rest_whole, rest_still}
@@ -12,7 +12,7 @@ loop-front-init c = (c.requires.pending, stop, grown_none c.args.values.now _, r
 
 pub returns-in_err-visit : goal.returns-in_err-visit
 returns-in_err-visit c =
-    let cs = clauses_of c.args.clauses in
+    let cs = clauses_listed c.args.clauses in
     let e = c.in_err-visit.ensures in
     let r = reach_on cs c.args.values.now c.loop-front.values c.visit.new.values c.loop-front.invariant.1 e.reached in
     let p = err_from_is_err_and c.from_residual.result c.from_residual.ensures.1 in
@@ -26,7 +26,7 @@ returns-in_err-visit c =
 
 pub loop-front-preserved : goal.loop-front-preserved
 loop-front-preserved c =
-    let cs = clauses_of c.args.clauses in
+    let cs = clauses_listed c.args.clauses in
     let e = c.in_ok-visit.ensures in
     let g = grown_on c.args.values.now c.loop-front.values c.visit.new.values _ _ _ c.loop-front.invariant.2 e.grown in
     let h = grown_longer c.loop-front.values c.visit.new.values _ _ e.grown in
@@ -44,7 +44,7 @@ loop-front-preserved c =
 
 pub returns : goal.returns
 returns c =
-    let cs = clauses_of c.args.clauses in
+    let cs = clauses_listed c.args.clauses in
     let v = c.loop-front.values in
     let t = take c.loop-front.trail.len c.loop-front.trail.entries.now in
     let l : length (drop c.loop-front.front t) ≡ 0 = simp (length-drop, length-take) (omega (arith, c.loop-front-test.false, c.len.ensures.counts_the_entries)) in

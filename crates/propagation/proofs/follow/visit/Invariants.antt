@@ -4,14 +4,14 @@ use Rattle.solving.specs.Orders.{Reaches}
 use Rattle.propagation.specs.Stacks.{held, room}
 use Rattle.propagation.specs.Trails.{Grown}
 use Rattle.propagation.specs.Occurrences.{against}
-use Rattle.propagation.specs.Clauses.{clauses_of}
+use Rattle.propagation.specs.Clauses.{clauses_listed}
 use Rattle.propagation.proofs.Visits.{Visiting}
 use Rattle.propagation.proofs.follow.visit.Given as goal
 
 abbrev pub invariant-loop-below : goal.invariant-loop-below
 invariant-loop-below l =
-    Visiting (clauses_of l.clauses) l.clauses.row.literals.now l.clauses.row.ends.now (against (get_or (held l.initial.trail) l.front (pos 0))) l.below l.values (drop (l.front + 1) (held l.trail))
-    × Reaches (clauses_of l.clauses) l.initial.values l.values
+    Visiting (clauses_listed l.clauses) l.clauses.literals.now l.clauses.ends.now (against (get_or (held l.initial.trail) l.front (pos 0))) l.below l.values (drop (l.front + 1) (held l.trail))
+    × Reaches (clauses_listed l.clauses) l.initial.values l.values
     × Grown l.initial.values l.values (held l.initial.trail) (held l.trail)
     × (room l.trail ≡ room l.initial.trail)
     × (l.trail.len + open_in (length l.values) l.values ≤ room l.trail)
