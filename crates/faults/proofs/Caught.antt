@@ -203,7 +203,8 @@ changes_at_the_line c s v xs value d k n differs l e at h is w m t =
 
 -- ---- by a fault's number
 
-no_fault_past : (c : Netlist) (f : ℕ) → fault_count c ≤ f → stuck_of c f ≡ None
+-- past the last fault there is no line
+pub no_fault_past : (c : Netlist) (f : ℕ) → fault_count c ≤ f → stuck_of c f ≡ None
 no_fault_past c f h = ap (stuck_at (eqb (f % 2) 1)) (no_line_past c (f / 2) (omega (arith, h)))
 
 -- what is asked of the line of a fault that the card has

@@ -6,3 +6,4 @@ pub mod Sited
 pub mod Caught
 pub mod Refined
 pub mod Thinned
+pub mod Numbered

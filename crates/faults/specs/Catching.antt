@@ -1,15 +1,17 @@
 -- What it is for a vector to catch a fault: with three values, good and faulty card have opposite definite bits at an output.
 -- X against 0 or 1 is no difference.
-use Rattle.std.specs.Prelude.{◌≡◌, ℕ, ◌<◌, Bool, true, false, List, length, Some, None, Option, slice_index_or}
+use Rattle.std.specs.Prelude.{◌≡◌, ℕ, ◌<◌, Bool, true, false, Decides, IfSome, List, length, Some, None, Option, slice_index_or}
 use Rattle.std.specs.List.{list_any}
+use Rattle.std.specs.Option.{IsSomeAnd}
 use Rattle.card.specs.Netlists.{Netlist}
 use Rattle.signal.specs.declared.line.Stuck.{Stuck}
 use Rattle.signal.specs.declared.ternary.Ternary.{Ternary}
 use Rattle.signal.specs.declared.ternary.Ternary.TheVariants.{Low, High, X}
 use Rattle.signal.specs.Ternaries.{ternary_operations}
 use Rattle.signal.specs.Walks.{net_values}
+use Rattle.vectors.specs.Extending.{Extends}
 use Rattle.vectors.specs.Vectors.{Cells, Fills, bit_at, start}
-use Rattle.faults.specs.Showing.{ShowsAt, output_net}
+use Rattle.faults.specs.Showing.{Shows, ShowsAt, output_net}
 use Rattle.faults.specs.Sites.{stuck_of}
 
 -- one of the two is 0 and the other 1
@@ -74,3 +76,21 @@ ShownWhereCaught c s v = (i : ℕ) → i < length c.outputs → caught_at c s v 
 -- every one of k inputs is fixed
 abbrev pub AllFixed : ℕ → Cells → Type 0
 AllFixed k v = (j : ℕ) → j < k → bit_at v.care j ≡ true
+
+-- ---- by a fault's number
+
+-- the card has the fault, and there is one output at which every filling of the vector shows it
+abbrev pub FaultShownByEveryFilling : Netlist → ℕ → Cells → Type 0
+FaultShownByEveryFilling c f v = IsSomeAnd (stuck_of c f) (λ s. ShownByEveryFilling c s v)
+
+-- wherever the vector catches the fault, every filling shows it there
+abbrev pub FaultShownWhereCaught : Netlist → ℕ → Cells → Type 0
+FaultShownWhereCaught c f v = IfSome (stuck_of c f) (λ s. ShownWhereCaught c s v)
+
+-- every vector that extends this one catches the fault
+abbrev pub FaultCaughtByMore : Netlist → ℕ → Cells → Type 0
+FaultCaughtByMore c f v = (w : Cells) → Extends w v → catches_fault c f w ≡ true
+
+-- where the vector has no free cell, the answer is whether its one filling shows the fault
+abbrev pub FaultDecided : Netlist → ℕ → Cells → Bool → Type 0
+FaultDecided c f v answer = IfSome (stuck_of c f) (λ s. AllFixed c.inputs v → (bits : List Bool) → Fills c.inputs v bits → Decides answer (Shows c s bits))

@@ -1,11 +1,13 @@
 -- One turn of the loops that put links, and the calls of the encoder one after another.
-use Rattle.std.proofs.Common.{◌≡◌, ℕ, zero, suc, ◌+◌, ◌-◌, ◌<◌, ◌≤◌, true, cond, List, [], ◌∷◌, ◌++◌, length, ℤ, pos, Some, None, Option, sym, refl, ap, ◌∙◌, add-one, arith}
+use Rattle.std.proofs.Common.{◌≡◌, ℕ, zero, suc, ◌+◌, ◌-◌, ◌<◌, ◌≤◌, true, false, cond, List, [], ◌∷◌, ◌++◌, length, ℤ, pos, Some, None, Option, sym, refl, ap, ◌∙◌, add-one, ltb, ltb-false, arith}
 use Rattle.std.proofs.lemmas.Bool.{and_from, le-leb}
 use Rattle.std.proofs.lemmas.Grind.{flat_map-append}
 use Rattle.std.specs.List.{flat_map}
 use Rattle.card.specs.Netlists.{Netlist, nets}
 use Rattle.signal.specs.declared.line.Stuck.{Stuck}
 use Rattle.signal.specs.Walks.{sticks_net}
+use Rattle.faults.specs.Sites.{fault_count, stuck_of}
+use Rattle.faults.proofs.Caught.{no_fault_past}
 use Rattle.solving.specs.Models.{Model, begun, startable}
 use Rattle.formula.specs.Formulas.{differences, formula_of}
 use Rattle.formula.specs.Links.{Link, clauses_of, copies, gate_links, input_links, link, links, output_links, tied}
@@ -78,3 +80,7 @@ module _ (c : Netlist) (s : Stuck) where
       h6 ∙ ap (λ x. given x (d ∷ [])) e5 ∙ given_given m0 (a ++ (b ++ (i ++ (g ++ o)))) (d ∷ [])
       ∙ ap (λ x. given m0 (x ++ (d ∷ []))) (sym in_order)
       ∙ ap (λ x. given m0 (flat_map clauses_of (links c s) ++ (x ∷ []))) (sym (differences_are (nets c) c.outputs 0))
+
+-- a number past the faults has no line
+pub no_fault : (c : Netlist) (f : ℕ) → ltb f (fault_count c) ≡ false → stuck_of c f ≡ None
+no_fault c f e = no_fault_past c f (ltb-false f (fault_count c) e)

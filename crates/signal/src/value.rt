@@ -70,7 +70,8 @@ impl GateNet {
         self.unless_stuck(sticks_pin(self.stuck, self.net, pin), nets[read as usize])
     }
 
-    // The value of the net, which the gate makes from the nets before it.
+    // The value of the net, which the gate makes from the nets before it. Inlined into the walk, which calls it for every gate.
+    #[inline(always)]
     pub(crate) fn value<S: Signal + Copy>(self, gate: Gate, nets: &[S; 256]) -> S
         requires reads_nets { all_below 256 (pins_of gate) ≡ true }
         ensures is_the_nets_value { result ≡ gate_net S.Signal.operations self.stuck nets.now self.net gate }

@@ -6,7 +6,7 @@ ghost use Rattle.card.specs.Netlists.{nets as net_count};
 ghost use Rattle.card.specs.Views.{netlist_of};
 ghost use Rattle.signal.specs.GateLaws.{GateLaws};
 ghost use Rattle.signal.specs.Laws.{Only};
-ghost use Rattle.signal.specs.Lists.{Carries};
+ghost use Rattle.signal.specs.Lists.{Carries, CarriesStuck};
 ghost use Rattle.signal.specs.Meanings.{BitMeaning};
 ghost use Rattle.signal.specs.Walks.{entered, net_of, net_values, walked};
 
@@ -79,6 +79,8 @@ pub fn walk_stuck<S: Signal + Copy>(card: &Card, stuck: Stuck, nets: &mut [S; 25
     ensures array_keeps_its_length { length nets.new ≡ length nets.old }
     ensures good_nets_become_the_faulty_ones { let c = netlist_of card.now in ((inputs : List S) → length inputs ≡ c.inputs → take (net_count c) nets.old ≡ net_values S.Signal.operations None c inputs → take (net_count c) nets.new ≡ net_values S.Signal.operations (Some stuck) c inputs) }
     ensures entries_behind_the_nets_stay { let c = netlist_of card.now in drop (net_count c) nets.new ≡ drop (net_count c) nets.old }
+    ensures every_net_allows_what_allowed_inputs_make { CarriesStuck S.Signal.operations S.Signal.lanes (λ l x. S.Signal.allows x l) stuck (netlist_of card.now) nets.old nets.new }
+    ensures definite_inputs_make_every_net_definite { CarriesStuck S.Signal.operations S.Signal.lanes (λ l. Only (λ x. S.Signal.allows x l)) stuck (netlist_of card.now) nets.old nets.new }
 {
     let inputs = card.inputs();
     enter_stuck_input(inputs, Some(stuck), nets);
