@@ -8,14 +8,19 @@ mod lent;
 use card::alike::alike;
 use card::netlist::Card;
 use console::card_of;
-use hex::{FromHexError, decode, encode};
+use hex::{FromHexError, decode, encode_to_slice};
 use reading::write::write;
 use std::alloc::{AllocError, Global};
+use std::fmt;
 use std::io::{BufRead, BufReader};
 
 // The bytes that a text of hexadecimal digits spells, two digits each. A capital letter is no digit here.
+// `decode` asks for memory before it looks at a digit, so a text with a wrong one is turned away first.
 fn bytes_of(heap: Global, text: &str) -> Result<Option<Vec<u8>>, AllocError> {
-    if text.bytes().any(|byte| byte.is_ascii_uppercase()) {
+    if !text
+        .bytes()
+        .all(|byte| matches!(byte, b'0'..=b'9' | b'a'..=b'f'))
+    {
         return Ok(None);
     }
     match decode(heap, text) {
@@ -25,13 +30,39 @@ fn bytes_of(heap: Global, text: &str) -> Result<Option<Vec<u8>>, AllocError> {
     }
 }
 
-// Counts and canonical bytes of a good card.
+// Bytes that are shown in hexadecimal, two digits each, 64 bytes at a time: showing them asks for no memory.
+#[derive(Drop)]
+struct Hexadecimal<'a> {
+    bytes: &'a [u8],
+}
+
+impl fmt::Display for Hexadecimal<'_> {
+    fn fmt<W: fmt::Write>(&self, f: &mut fmt::Formatter<W>) -> fmt::Result {
+        for chunk in self.bytes.chunks(64) {
+            let mut room = [0; 128];
+            let length = (2 * chunk.len()).min(room.len());
+            let digits = &mut room[..length];
+            encode_to_slice(chunk, digits).map_err(|_| fmt::Error)?;
+            let text = str::from_utf8(digits).map_err(|_| fmt::Error)?;
+            f.write_str(text)?;
+        }
+        Ok(())
+    }
+}
+
+// Counts and canonical bytes of a good card. The counts are printed before there is memory for the bytes.
 fn describe(rt: &HostRuntime, card: &Card) -> anyhow::Result<()> {
     let inputs = card.inputs();
     let nets = card.nets();
     let outputs = card.outputs().len();
-    let bytes = encode(rt.alloc(), write(rt.alloc(), card)?)?;
-    println!(rt; "card {inputs} inputs {nets} nets {outputs} outputs {bytes}")?;
+    print!(rt; "card {inputs} inputs {nets} nets {outputs} outputs ")?;
+    let bytes = write(rt.alloc(), card)?;
+    println!(rt;
+        "{}",
+        Hexadecimal {
+            bytes: bytes.as_slice()
+        }
+    )?;
     Ok(())
 }
 

@@ -32,18 +32,31 @@ pub struct Counts {
 
 impl Counts {
     // The counts of faults of which these are the marks.
-    #[tactic(auto, using(crate::proofs::Tabled::counted))]
     pub(crate) fn of(marks: &[Marked]) -> Counts
         ensures counts_the_open { result.«open» ≡ count_by is_open (map mark_of marks.now) }
         ensures counts_the_detected { result.detected ≡ count_by is_detected (map mark_of marks.now) }
         ensures counts_the_untestable { result.untestable ≡ count_by is_untestable (map mark_of marks.now) }
         ensures counts_the_taken { result.taken ≡ count_by (λ b. b) (map taken_of marks.now) }
     {
+        let mut open = 0;
+        let mut detected = 0;
+        let mut untestable = 0;
+        let mut taken = 0;
+        for marked in marks {
+            match marked.mark {
+                Mark::Open => open += 1,
+                Mark::Detected(_) => detected += 1,
+                Mark::Untestable => untestable += 1,
+            }
+            if marked.taken {
+                taken += 1;
+            }
+        }
         Counts {
-            open: marks.iter().filter(|m| m.mark.is_open()).count(),
-            detected: marks.iter().filter(|m| m.mark.is_detected()).count(),
-            untestable: marks.iter().filter(|m| m.mark.is_untestable()).count(),
-            taken: marks.iter().filter(|m| m.taken).count(),
+            open,
+            detected,
+            untestable,
+            taken,
         }
     }
 }

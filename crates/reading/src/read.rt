@@ -25,9 +25,9 @@ impl Draft {
         ensures declares_nothing { draft_of result ≡ nothing }
     {
         Draft {
-            inputs: 0,
             gates: ArrayVec::new(),
             outputs: ArrayVec::new(),
+            inputs: 0,
         }
     }
 
@@ -64,17 +64,30 @@ fn step(draft: &mut Draft, rest: &[u8], at: usize) -> Result<Option<usize>, Card
     }
 }
 
-// The bytes' commands, up to the end of the card, gathered in a draft.
+// The bytes' commands, up to the end of the card, gathered in a draft in which nothing is declared.
+// The draft is lent, since an answer that holds it would be copied, two kilobytes and more.
 // The offset is counted by hand: each command says how many bytes it takes, and the faults name it.
-fn gather(bytes: &[u8]) -> Result<Draft, CardFault>
-    ensures holds_what_the_bytes_say { MatchResult result (λ draft. reading bytes.now ≡ Ok (draft_of draft)) (λ e. reading bytes.now ≡ Err e) }
+fn gather(draft: &mut Draft, bytes: &[u8]) -> Result<(), CardFault>
+    requires { draft_of draft.old ≡ nothing }
+    ensures holds_what_the_bytes_say { MatchResult result (λ _. reading bytes.now ≡ Ok (draft_of draft.new)) (λ e. reading bytes.now ≡ Err e) }
 {
-    let mut draft = Draft::new();
     let mut at = 0;
-    while let Some(size) = step(&mut draft, &bytes[at..], at)? {
+    while let Some(size) = step(draft, &bytes[at..], at)? {
         at += size;
     }
-    Ok(draft)
+    Ok(())
+}
+
+// The elements in memory of their own, as much as they need. One by one: the kit's `from_slice` makes the archive for C ask the C
+// library for `memmove`, which no other call needs.
+fn owned<T: Copy>(heap: Global, elements: &[T]) -> Result<Vec<T>, AllocError>
+    ensures holds_the_elements { IfOk result (λ v. v.items ≡ elements.now) }
+{
+    let mut list = Vec::with_capacity(heap, elements.len())?;
+    for element in elements {
+        list.push_reserved(*element);
+    }
+    Ok(list)
 }
 
 // A draft that keeps the rules of a card, as a card.
@@ -82,8 +95,8 @@ fn card_of(heap: Global, draft: &Draft) -> Result<Card, AllocError>
     requires { Lawful (draft_of draft.now) }
     ensures holds_the_draft { IfOk result (λ card. netlist_of card ≡ draft_of draft.now) }
 {
-    let gates = Vec::from_slice(heap, draft.gates.as_slice())?;
-    let outputs = Vec::from_slice(heap, draft.outputs.as_slice())?;
+    let gates = owned(heap, draft.gates.as_slice())?;
+    let outputs = owned(heap, draft.outputs.as_slice())?;
     Ok(Card::assemble(draft.inputs, gates, outputs))
 }
 
@@ -96,7 +109,8 @@ pub fn from_bytes(heap: Global, bytes: &[u8]) -> Result<Card, CardFault>
     ensures is_what_the_definition_reads { MatchResult result (λ card. reading bytes.now ≡ Ok (netlist_of card)) (λ e. (e ≢ Memory) → reading bytes.now ≡ Err e) }
     ensures definition_and_rules_agree { Agree }
 {
-    let draft = gather(bytes)?;
+    let mut draft = Draft::new();
+    gather(&mut draft, bytes)?;
     let spelled_card = card_of(heap, &draft)?;
     Ok(spelled_card)
 }

@@ -1,6 +1,6 @@
 // Writing a card: its canonical bytes, which read back to the same card.
 ghost use Rattle.std.specs.Prelude.{◌≡◌, ℕ, ◌/◌, ◌++◌, IfOk, Ok, OnOk};
-ghost use Rattle.reading.specs.Commands.{net_bytes, spelled};
+ghost use Rattle.reading.specs.Commands.{spelled};
 ghost use Rattle.reading.specs.Reading.{reading};
 ghost use Rattle.reading.specs.Rules.{Accepted};
 ghost use Rattle.card.specs.Views.{netlist_of};
@@ -11,23 +11,21 @@ use card::gate::{Gate, Operands};
 use card::netlist::Card;
 use std::alloc::{AllocError, Global};
 
-// A net number, high byte first.
-fn write_net(bytes: &mut Vec<u8>, net: u16) -> Result<(), AllocError>
-    ensures appends_the_nets_bytes { OnOk result (bytes.new.items ≡ bytes.old.items ++ net_bytes net) }
-{
-    bytes.extend_from_slice(&net.to_be_bytes())
-}
-
+// The command and its operands, each high byte first, in one append.
 fn write_gate(bytes: &mut Vec<u8>, gate: Gate) -> Result<(), AllocError>
     ensures appends_the_gate_command { OnOk result (bytes.new.items ≡ bytes.old.items ++ spelled (AddGate gate)) }
 {
-    bytes.push(0x30 + gate.function.number())?;
+    let command = 0x30 + gate.function.number();
     match gate.operands {
-        Operands::None => {}
-        Operands::One(only) => write_net(bytes, only)?,
+        Operands::None => bytes.push(command)?,
+        Operands::One(only) => {
+            let [high, low] = only.to_be_bytes();
+            bytes.extend_from_slice(&[command, high, low])?;
+        }
         Operands::Two(first, second) => {
-            write_net(bytes, first)?;
-            write_net(bytes, second)?;
+            let [high, low] = first.to_be_bytes();
+            let [second_high, second_low] = second.to_be_bytes();
+            bytes.extend_from_slice(&[command, high, low, second_high, second_low])?;
         }
     }
     Ok(())
@@ -36,8 +34,8 @@ fn write_gate(bytes: &mut Vec<u8>, gate: Gate) -> Result<(), AllocError>
 fn write_output(bytes: &mut Vec<u8>, net: u16) -> Result<(), AllocError>
     ensures appends_the_output_command { OnOk result (bytes.new.items ≡ bytes.old.items ++ spelled (AddOutput net)) }
 {
-    bytes.push(0x40)?;
-    write_net(bytes, net)
+    let [high, low] = net.to_be_bytes();
+    bytes.extend_from_slice(&[0x40, high, low])
 }
 
 // Apart from `write_outputs`: one function over both would be handed the writing of one element, and its law with it.
