@@ -12,14 +12,14 @@ ghost use Rattle.propagation.specs.Following.{Pending, Closes};
 use crate::assignment::Assignment;
 use crate::clauses::Clauses;
 use crate::conflict::Conflict;
-use crate::follow::follow;
+use crate::follow::follow_by_lists;
 use crate::lists::Lists;
 use crate::scan::scan;
 use crate::stack::Stack;
 use crate::trail::make;
 
-// Looks at every clause once, and makes the literal of each unit clause true.
-pub fn begin(
+// Looks at every clause once, and makes the literal of each unit clause true. By plain lists, of which it reads the row alone.
+pub fn begin_by_lists(
     clauses: Lists,
     values: &mut [Option<bool>],
     trail: &mut Stack<i16>,
@@ -41,8 +41,8 @@ pub fn begin(
     Ok(())
 }
 
-// Closure; a conflict where it ends violated.
-pub fn close(
+// Closure by plain lists; a conflict where it ends violated.
+pub fn close_by_lists(
     clauses: Lists,
     values: &mut [Option<bool>],
     trail: &mut Stack<i16>,
@@ -56,13 +56,44 @@ pub fn close(
     ensures space { room trail.new ≡ room trail.old }
 {
     let front = trail.len();
-    begin(clauses, values, trail)?;
-    follow(clauses, values, trail, front)
+    begin_by_lists(clauses, values, trail)?;
+    follow_by_lists(clauses, values, trail, front)
+}
+
+// The same two over `Clauses`, which carry what closure asks of their lists: every clause looked at once.
+pub fn begin(
+    clauses: Clauses,
+    values: &mut [Option<bool>],
+    trail: &mut Stack<i16>,
+) -> Result<(), Conflict>
+    requires space { trail.old.len + open_in (length values.old) values.old ≤ room trail.old }
+    ensures reached { Reaches (clauses_of clauses.entry) values.old values.new }
+    ensures broken { OnErr result (violated values.new (clauses_of clauses.entry) ≡ true) }
+    ensures pending { OnOk result (Pending (clauses_of clauses.entry) values.new (drop trail.old.len (held trail.new))) }
+    ensures grown { Grown values.old values.new (held trail.old) (held trail.new) }
+    ensures space { room trail.new ≡ room trail.old }
+{
+    begin_by_lists(clauses.lists(), values, trail)
+}
+
+// And closure.
+pub fn close(
+    clauses: Clauses,
+    values: &mut [Option<bool>],
+    trail: &mut Stack<i16>,
+) -> Result<(), Conflict>
+    requires few { length values.old ≤ 560 }
+    requires space { trail.old.len + open_in (length values.old) values.old ≤ room trail.old }
+    ensures closes { Closes (clauses_of clauses.entry) values.old values.new (is_ok result) }
+    ensures grown { Grown values.old values.new (held trail.old) (held trail.new) }
+    ensures space { room trail.new ≡ room trail.old }
+{
+    close_by_lists(clauses.lists(), values, trail)
 }
 
 // The clauses stand beside the setting: in one type with it each call would have to promise too that they stay.
 impl Assignment<'_> {
-    // The same of an assignment: every clause looked at once.
+    // The same two of an assignment: every clause looked at once.
     pub fn begin(&mut self, clauses: Clauses) -> Result<(), Conflict>
         ensures reached { Reaches (clauses_of clauses.entry) self.old.values.now self.new.values.now }
         ensures broken { OnErr result (violated self.new.values.now (clauses_of clauses.entry) ≡ true) }
@@ -70,7 +101,7 @@ impl Assignment<'_> {
         ensures grown { Grown self.old.values.now self.new.values.now (held self.old.trail) (held self.new.trail) }
         ensures keeps_its_room { room self.new.trail ≡ room self.old.trail }
     {
-        begin(clauses.lists(), self.values, &mut self.trail)
+        begin_by_lists(clauses.lists(), self.values, &mut self.trail)
     }
 
     // And closure.
@@ -79,6 +110,6 @@ impl Assignment<'_> {
         ensures grown { Grown self.old.values.now self.new.values.now (held self.old.trail) (held self.new.trail) }
         ensures keeps_its_room { room self.new.trail ≡ room self.old.trail }
     {
-        close(clauses.lists(), self.values, &mut self.trail)
+        close_by_lists(clauses.lists(), self.values, &mut self.trail)
     }
 }

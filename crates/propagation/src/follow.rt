@@ -14,7 +14,7 @@ use crate::clauses::Clauses;
 use crate::conflict::Conflict;
 use crate::lists::Lists;
 use crate::literal::negated_key_of;
-use crate::press::press;
+use crate::press::press_once;
 use crate::stack::Stack;
 
 // Follows up the literal at one place of the trail. What is reached, broken and grown is said of every call on the way: it relates
@@ -41,15 +41,15 @@ fn visit(
     let mut below = clauses.lasts[negated_key_of(trail.get(front))] as usize;
     while below > 0 {
         let place = clauses.places[below - 1];
-        press(clauses.literals, values, trail, place)?;
+        press_once(clauses.literals, values, trail, place)?;
         below = place.before as usize;
     }
     Ok(())
 }
 
-// Closure of a setting in which only the literals from one place of the trail on have yet to be followed up.
+// Closure, by plain lists, of a setting in which only the literals from one place of the trail on have yet to be followed up.
 // A conflict where it ends violated.
-pub fn follow(
+pub fn follow_by_lists(
     clauses: Lists,
     values: &mut [Option<bool>],
     trail: &mut Stack<i16>,
@@ -76,6 +76,26 @@ pub fn follow(
     Ok(())
 }
 
+// The same over `Clauses`, which carry what closure asks of their lists.
+pub fn follow(
+    clauses: Clauses,
+    values: &mut [Option<bool>],
+    trail: &mut Stack<i16>,
+    from: usize,
+) -> Result<(), Conflict>
+    requires few { length values.old ≤ 560 }
+    requires inside { from ≤ trail.old.len }
+    requires pending { Pending (clauses_of clauses) values.old (drop from (held trail.old)) }
+    requires space { trail.old.len + open_in (length values.old) values.old ≤ room trail.old }
+    ensures closes { Closes (clauses_of clauses.entry) values.old values.new (is_ok result) }
+    ensures reached { Reaches (clauses_of clauses.entry) values.old values.new }
+    ensures broken { OnErr result (violated values.new (clauses_of clauses.entry) ≡ true) }
+    ensures grown { Grown values.old values.new (held trail.old) (held trail.new) }
+    ensures space { room trail.new ≡ room trail.old }
+{
+    follow_by_lists(clauses.lists(), values, trail, from)
+}
+
 impl Assignment<'_> {
     // The same of an assignment.
     pub fn follow(&mut self, clauses: Clauses, from: usize) -> Result<(), Conflict>
@@ -87,6 +107,6 @@ impl Assignment<'_> {
         ensures grown { Grown self.old.values.now self.new.values.now (held self.old.trail) (held self.new.trail) }
         ensures keeps_its_room { room self.new.trail ≡ room self.old.trail }
     {
-        follow(clauses.lists(), self.values, &mut self.trail, from)
+        follow_by_lists(clauses.lists(), self.values, &mut self.trail, from)
     }
 }

@@ -17,6 +17,8 @@ mod press;
 mod row;
 mod scan;
 mod stack;
+#[cfg(test)]
+mod tests;
 pub mod trail;
 
 pub use assignment::Assignment;

@@ -46,7 +46,7 @@ fn state_beside(literals: &[i16], values: &[Option<bool>], place: Occurrence) ->
 }
 
 // Looks at the clause of a place, and makes its lone literal true if it has one; or leaves it to an earlier place of the literal.
-pub fn press(
+pub fn press_once(
     literals: &[i16],
     values: &mut [Option<bool>],
     trail: &mut Stack<i16>,
@@ -66,4 +66,22 @@ pub fn press(
             Ok(())
         }
     }
+}
+
+// Looks at the clause of whatever place it is given, also where the literal stands before that place in it.
+pub fn press(
+    literals: &[i16],
+    values: &mut [Option<bool>],
+    trail: &mut Stack<i16>,
+    place: Occurrence,
+) -> Result<(), Conflict>
+    requires inside { place.to ≤ length literals.now }
+    requires paired { place.to ≤ place.from + 3 → state_of values.old (place.first ∷ place.second ∷ []) ≡ state_of values.old (take (place.to - place.from) (drop place.from literals.now)) }
+    requires space { trail.old.len + open_in (length values.old) values.old ≤ room trail.old }
+    ensures presses { Pressed (take (place.to - place.from) (drop place.from literals.now)) values.old (held trail.old) (is_ok result) values.new (held trail.new) }
+    ensures space { room trail.new ≡ room trail.old }
+{
+    // With none named before it, there is no place to which the clause could be left.
+    let alone = Occurrence { before: 0, ..place };
+    press_once(literals, values, trail, alone)
 }

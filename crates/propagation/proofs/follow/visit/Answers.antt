@@ -46,8 +46,8 @@ bounds-clauses-below c =
     let s = c.loop-below.invariant.0.stands (omega (arith, c.loop-below-test.true)) in
     omega (arith, s.0, c.requires.listed.roomy, c.loop-below-test.true)
 
-pub press-requires : goal.press-requires
-press-requires c =
+pub press_once-requires : goal.press_once-requires
+press_once-requires c =
     let cl = c.args.clauses in
     let s = c.loop-below.invariant.0.stands (omega (arith, c.loop-below-test.true)) in
     let v = visited cl.literals.now cl.ends.now cl.lasts.now cl.places.now c.requires.listed (c.loop-below.below - 1) (omega (arith, s.0, c.loop-below-test.true)) in
@@ -58,16 +58,16 @@ press-requires c =
       space = c.loop-below.invariant.4;
     }
 
-pub returns-in_err-press : goal.returns-in_err-press
-returns-in_err-press c =
+pub returns-in_err-press_once : goal.returns-in_err-press_once
+returns-in_err-press_once c =
     let cl = c.args.clauses in
     let t = take c.args.trail.now.len c.args.trail.now.entries.now in
     let n : c.args.front < length t = simp length-take (omega (arith, c.requires.inside, c.args.trail.now.fits)) in
     let w = front_wide (clauses_listed cl) c.args.values.now t c.args.front (length cl.lasts.now) c.requires.pending n c.requires.wide in
     let b : c.loop-below.below ≡ (c.loop-below.below - 1) + 1 = omega (arith, c.loop-below-test.true) in
-    let q = visit_broken cl.literals.now cl.ends.now cl.lasts.now cl.places.now c.requires.listed (against (get_or t c.args.front (pos 0))) c.loop-below.below (c.loop-below.below - 1) c.args.front c.args.values.now c.loop-below.values c.press.new.values t _ _ _ b w c.loop-below.invariant.0 c.loop-below.invariant.1 c.loop-below.invariant.2 n c.in_err-press.ensures.presses refl in
+    let q = visit_broken cl.literals.now cl.ends.now cl.lasts.now cl.places.now c.requires.listed (against (get_or t c.args.front (pos 0))) c.loop-below.below (c.loop-below.below - 1) c.args.front c.args.values.now c.loop-below.values c.press_once.new.values t _ _ _ b w c.loop-below.invariant.0 c.loop-below.invariant.1 c.loop-below.invariant.2 n c.in_err-press_once.ensures.presses refl in
     let p = err_from_is_err_and c.from_residual.result c.from_residual.ensures.1 in
-    rw p.1 (record { reached = q.0; broken = q.1; pending = tt; grown = q.2; space = c.press.ensures.space ∙ c.loop-below.invariant.3 })
+    rw p.1 (record { reached = q.0; broken = q.1; pending = tt; grown = q.2; space = c.press_once.ensures.space ∙ c.loop-below.invariant.3 })
 
 pub loop-below-smaller : goal.loop-below-smaller
 loop-below-smaller c =
@@ -86,13 +86,13 @@ loop-below-preserved c =
     let n : c.args.front < length t = simp length-take (omega (arith, c.requires.inside, c.args.trail.now.fits)) in
     let w = front_wide (clauses_listed cl) c.args.values.now t c.args.front (length cl.lasts.now) c.requires.pending n c.requires.wide in
     let b : c.loop-below.below ≡ (c.loop-below.below - 1) + 1 = omega (arith, c.loop-below-test.true) in
-    let q = visit_goes cl.literals.now cl.ends.now cl.lasts.now cl.places.now c.requires.listed (against (get_or t c.args.front (pos 0))) c.loop-below.below (c.loop-below.below - 1) c.args.front c.args.values.now c.loop-below.values c.press.new.values t _ _ _ b w c.loop-below.invariant.0 c.loop-below.invariant.1 c.loop-below.invariant.2 n c.in_ok-press.ensures.presses refl in
-    let m = length-take c.press.new.trail.len c.press.new.trail.entries.now in
-    let r = c.press.ensures.space ∙ c.loop-below.invariant.3 in
+    let q = visit_goes cl.literals.now cl.ends.now cl.lasts.now cl.places.now c.requires.listed (against (get_or t c.args.front (pos 0))) c.loop-below.below (c.loop-below.below - 1) c.args.front c.args.values.now c.loop-below.values c.press_once.new.values t _ _ _ b w c.loop-below.invariant.0 c.loop-below.invariant.1 c.loop-below.invariant.2 n c.in_ok-press_once.ensures.presses refl in
+    let m = length-take c.press_once.new.trail.len c.press_once.new.trail.entries.now in
+    let r = c.press_once.ensures.space ∙ c.loop-below.invariant.3 in
     let l = length-take c.args.trail.now.len c.args.trail.now.entries.now in (
       q.0,
       q.1,
       q.2,
       r,
-      omega (arith, q.2.room, m, l, c.press.new.trail.fits, c.args.trail.now.fits, r, c.requires.space),
+      omega (arith, q.2.room, m, l, c.press_once.new.trail.fits, c.args.trail.now.fits, r, c.requires.space),
     )

@@ -1,11 +1,11 @@
-use Rattle.std.proofs.Common.{length, arith, length-take}
+use Rattle.std.proofs.Common.{arith, length-take}
 use Rattle.propagation.proofs.assignment.Assignment.close.Goals as goal
 
 pub invariant_of-self : goal.invariant_of-self
 invariant_of-self c =
     let a = c.args.self.now in
-    let e = c.close.ensures in
-    let u = c.close.new.trail in
+    let e = c.close_by_lists.ensures in
+    let u = c.close_by_lists.new.trail in
     record {
       few = omega (arith, e.grown.long, a.few);
       roomy = omega (arith, e.grown.long, e.space, a.roomy);

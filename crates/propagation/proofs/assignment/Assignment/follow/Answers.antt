@@ -1,11 +1,11 @@
-use Rattle.std.proofs.Common.{length, arith, length-take}
+use Rattle.std.proofs.Common.{arith, length-take}
 use Rattle.propagation.proofs.assignment.Assignment.follow.Goals as goal
 
 pub invariant_of-self : goal.invariant_of-self
 invariant_of-self c =
     let a = c.args.self.now in
-    let e = c.follow.ensures in
-    let u = c.follow.new.trail in
+    let e = c.follow_by_lists.ensures in
+    let u = c.follow_by_lists.new.trail in
     record {
       few = omega (arith, e.grown.long, a.few);
       roomy = omega (arith, e.grown.long, e.space, a.roomy);

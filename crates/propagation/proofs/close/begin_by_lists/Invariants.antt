@@ -5,7 +5,7 @@ use Rattle.propagation.specs.Stacks.{held, room}
 use Rattle.propagation.specs.Trails.{Grown}
 use Rattle.propagation.specs.Clauses.{clauses_listed}
 use Rattle.propagation.proofs.Visits.{Looked}
-use Rattle.propagation.proofs.close.begin.Given as goal
+use Rattle.propagation.proofs.close.begin_by_lists.Given as goal
 
 abbrev pub invariant-loop-c : goal.invariant-loop-c
 invariant-loop-c l =

@@ -5,7 +5,7 @@ use Rattle.propagation.specs.Stacks.{held, room}
 use Rattle.propagation.specs.Trails.{Grown}
 use Rattle.propagation.specs.Clauses.{clauses_listed}
 use Rattle.propagation.specs.Following.{Pending}
-use Rattle.propagation.proofs.follow.follow.Given as goal
+use Rattle.propagation.proofs.follow.follow_by_lists.Given as goal
 
 abbrev pub invariant-loop-front : goal.invariant-loop-front
 invariant-loop-front l =

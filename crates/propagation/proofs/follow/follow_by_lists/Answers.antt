@@ -5,7 +5,7 @@ use Rattle.propagation.specs.Clauses.{clauses_listed}
 use Rattle.propagation.proofs.Trailing.{grown_none, grown_on, grown_longer}
 use Rattle.propagation.proofs.Reached.{reach_on, closes_broken, closes_whole}
 use Rattle.propagation.proofs.Followed.{pending_end, rest_whole, rest_still}
-use Rattle.propagation.proofs.follow.follow.Goals as goal
+use Rattle.propagation.proofs.follow.follow_by_lists.Goals as goal
 
 pub loop-front-init : goal.loop-front-init
 loop-front-init c = (c.requires.pending, stop, grown_none c.args.values.now _, refl, c.requires.space, c.requires.inside)

@@ -12,7 +12,7 @@ use Rattle.propagation.proofs.Scanned.{scan_open, scan_falls}
 use Rattle.propagation.proofs.Trailing.{grown_none, grown_more, grown_longer}
 use Rattle.propagation.proofs.Reached.{reach_more}
 use Rattle.propagation.proofs.Followed.{look_none, look_unit, look_end, look_broken}
-use Rattle.propagation.proofs.close.begin.Goals as goal
+use Rattle.propagation.proofs.close.begin_by_lists.Goals as goal
 
 pub loop-c-init : goal.loop-c-init
 loop-c-init c =
